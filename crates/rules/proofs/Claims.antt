@@ -1,0 +1,130 @@
+-- Each claim, proved by the laws.
+use Prim.Native.Nat.{ℕ, _+_, _≤_}
+use mathlib.Core.Path.{_≡_, refl, ap, sym, _∙_}
+use mathlib.Core.List.{List}
+use borrow.Author.Tests.{le-ltb}
+use lib.ListN.{length}
+use Rattle.rules.specs.Outcome.{good, _>>=_, _>>_}
+use Rattle.rules.specs.Bytes.{Bytes, part}
+use Rattle.rules.specs.Message.{headerBytes, sizeable, head, Message, recordOf, message, parsed}
+use Rattle.rules.specs.Reading.{header, optionRun}
+use Rattle.rules.specs.Buffer.{fitted}
+use Rattle.rules.specs.Writer.{written, writer}
+use Rattle.rules.specs.Clean.{clean, cleaner}
+use Rattle.rules.specs.Copy.{releasedOf, roomFor, answered, copy}
+use Rattle.rules.specs.Burst.{randomizing, opening, randomizer, opener}
+use Rattle.rules.specs.Claims.{BuffersKept, WrittenRead, AcceptedValid, ReadValid, ReadWritten, PartsWritten, CleanTwice, CleanExactly, PackageExactly, CutExactly, WalkShowsAll, GrantedExactly, Recurrence, BitPeriod, TableEntry, RandomizedTwice, TableHolds, SameCopies, DifferentCopies, CountsReleased, SequenceCounted, OneOutcome, partsOf}
+use Rattle.rules.proofs.Outcomes.{pass, step, stepped, good-inj}
+use Rattle.rules.proofs.Kept.{careful-stored, careful-answered, kept-randomized, kept-opened}
+use Rattle.rules.proofs.Cut as Cut
+use Rattle.rules.proofs.Passed.{passes}
+use Rattle.rules.proofs.RoundTrip as RoundTrip
+use Rattle.rules.proofs.Writer.{accepts, accepted-valid, parts, parts-written}
+use Rattle.rules.proofs.Refused.{exactly}
+use Rattle.rules.proofs.Walks.{walks-cut}
+use Rattle.rules.proofs.Granted.{granted-exactly}
+use Rattle.rules.proofs.Sequence as Sequence
+use Rattle.rules.proofs.Table.{table}
+use Rattle.rules.proofs.Growing.{stamped-snoc}
+use Rattle.rules.proofs.Interference.{copy-is, delivered-is, same-list}
+
+-- ---- demand 1
+
+pub buffers-kept : BuffersKept
+unfolding writer cleaner copy randomizer opener
+buffers-kept = record {
+  writer = λ d buffer. careful-stored buffer (written d >>= fitted buffer);
+  cleaner = λ s buffer. careful-stored buffer ((sizeable s >> clean s) >>= fitted buffer);
+  copy = λ sheet recording buffer. careful-answered buffer (releasedOf sheet recording >>= roomFor buffer);
+  randomizer = λ buffer. kept-randomized buffer (randomizing buffer);
+  opener = λ buffer. kept-opened buffer (opening buffer);
+}
+
+-- ---- demand 2
+
+pub written-read : WrittenRead
+written-read = RoundTrip.written-read
+
+pub accepted-is-valid : AcceptedValid
+accepted-is-valid d f m e = accepted-valid d f (accepts d e)
+
+pub read-valid : ReadValid
+read-valid = RoundTrip.read-valid
+
+pub read-written : ReadWritten
+read-written = RoundTrip.read-written
+
+-- the option run of a message that passes
+run-is : (s : List ℕ) (n : ℕ) → header s ≡ good (head s, n) → optionRun s ≡ part headerBytes (headerBytes + n) s
+unfolding optionRun
+run-is s n e = rw (e, optionRun)
+
+parts-are : (s : List ℕ) (r : ℕ × List (List ℕ)) → length s ≤ 65536 → parsed 0 s (head s) ≡ good r → partsOf s (head s) ≡ parts s r
+unfolding parts parsed header
+parts-are s r l q =
+    let (n, o, e) = stepped _ _ q in
+    let (cs, f, e) = stepped _ _ e in
+    let h : header s ≡ good (head s, n) = pass _ _ _ _ (le-ltb 65536 (length s) l) (step _ _ o refl) in
+    let z : n ≡ r .0 = ap (λ (x : ℕ × List (List ℕ)). x .0) (good-inj e) in
+    rw (run-is s n h, z)
+
+pub parts-give-clean : PartsWritten
+unfolding message clean
+parts-give-clean s b l m n e =
+    let (r, q, z) = stepped _ _ e in
+    ap written (parts-are s r l q) ∙ parts-written 0 s r b l (passes 0 s (head s) r q) ∙ sym (step _ _ q refl)
+
+pub clean-twice : CleanTwice
+clean-twice = RoundTrip.clean-twice
+
+pub clean-exactly : CleanExactly
+clean-exactly = RoundTrip.clean-exactly
+
+pub package-exactly : PackageExactly
+package-exactly p s b = exactly p s b
+
+pub cut-exactly : CutExactly
+cut-exactly p s pieces = (λ e. Cut.sound 0 p s e, λ f. Cut.complete f p)
+
+pub walk-shows-all : WalkShowsAll
+walk-shows-all = walks-cut
+
+pub granted-by-ranges : GrantedExactly
+granted-by-ranges rows m k = granted-exactly m k rows
+
+pub recurrence : Recurrence
+recurrence = Sequence.recurrence
+
+pub bit-period : BitPeriod
+bit-period = Sequence.bit-period
+
+pub table-entry : TableEntry
+table-entry = Sequence.byte-entry
+
+pub randomized-twice : RandomizedTwice
+randomized-twice = Sequence.randomized-twice 0
+
+pub table-holds : TableHolds
+table-holds = table
+
+-- ---- demand 3
+
+pub same-copies : SameCopies
+unfolding copy
+same-copies sheet sheet′ recording recording′ buffer e = ap (λ (o : _). answered buffer (o >>= roomFor buffer)) e
+
+pub different-copies : DifferentCopies
+different-copies sheet sheet′ recording recording′ buffer buffer′ b b′ es es′ r r′ l l′ differ e =
+    differ (same-list sheet sheet′ recording recording′ buffer buffer′ b b′ es es′ r r′ l l′ e)
+
+pub counts-released : CountsReleased
+counts-released sheet recording buffer es r l =
+    (ap (λ (a : _). a .0) (copy-is sheet recording es r buffer l), delivered-is sheet recording es r buffer l)
+
+pub sequence-counted : SequenceCounted
+sequence-counted = stamped-snoc
+
+-- ---- what a promise allows
+
+pub one-outcome : OneOutcome
+one-outcome A B told apart d a b p q = apart a b (p ∙ sym q)

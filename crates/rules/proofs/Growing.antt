@@ -1,0 +1,71 @@
+-- How the released list and the copy grow, message by message: what the loop of the copy keeps.
+use Prim.Native.Nat.{ℕ, suc, _+_}
+use mathlib.Core.Path.{_≡_, refl, ap, _∙_}
+use mathlib.Core.Bool.{Bool, true, false}
+use mathlib.Core.List.{List, [], _∷_, _++_, map, append-nil, append-assoc}
+use native.Mathlib.Nat.{zero-add, add-zero}
+use native.Mathlib.Omega.{arith}
+use lib.Dec.{eqb}
+use Rattle.rules.specs.Bytes.{join}
+use Rattle.rules.specs.Packages.{Package}
+use Rattle.rules.specs.Message.{Message}
+use Rattle.rules.specs.Writer.{write}
+use Rattle.rules.specs.Sheet.{Row}
+use Rattle.rules.specs.Copy.{Entry, idOf, granteds, enter, released, count, stamp, stamped, rendered}
+
+-- lists one behind the other
+pub join-append : (cs ds : List (List ℕ)) → join (cs ++ ds) ≡ join cs ++ join ds
+join-append [] ds = refl
+join-append (c ∷ cs) ds = rw (join-append cs ds, append-assoc)
+
+pub map-append : {A B : Type 0} (f : A → B) (l m : List A) → map f (l ++ m) ≡ map f l ++ map f m
+map-append f [] m = refl
+map-append f (a ∷ l) m = ap (λ (r : List _). f a ∷ r) (map-append f l m)
+
+-- the released list of more messages
+enter-append : (m : Message) (ps : List Package) (es fs : List Entry) → enter m ps (es ++ fs) ≡ enter m ps es ++ fs
+unfolding enter
+enter-append m [] es fs = refl
+enter-append m (p ∷ ps) es fs = refl
+
+pub released-append : (rs : List Row) (ms ns : List Message) → released rs (ms ++ ns) ≡ released rs ms ++ released rs ns
+unfolding released
+released-append rs [] ns = refl
+released-append rs (m ∷ ms) ns = rw (released-append rs ms ns, enter-append)
+
+-- one message more: no entry, or one
+pub released-snoc : (rs : List Row) (ms : List Message) (m : Message) → released rs (ms ++ (m ∷ [])) ≡ released rs ms ++ enter m (granteds rs m (m .packages)) []
+unfolding released
+released-snoc rs ms m = released-append rs ms (m ∷ [])
+
+-- the ids of the entries es, the latest first, in front of those seen before
+ids : List Entry → List ℕ → List ℕ
+ids [] seen = seen
+ids (e ∷ es) seen = ids es (e .id ∷ seen)
+
+stamped-append : (seen : List ℕ) (es fs : List Entry) → stamped seen (es ++ fs) ≡ stamped seen es ++ stamped (ids es seen) fs
+unfolding stamped ids
+stamped-append seen [] fs = refl
+stamped-append seen (e ∷ es) fs = ap (λ (r : List Message). stamp (count (e .id) seen) e ∷ r) (stamped-append (e .id ∷ seen) es fs)
+
+-- how often an id was seen does not depend on the order
+count-ids : (x : ℕ) (es : List Entry) (seen : List ℕ) → count x (ids es seen) ≡ count x (map idOf es) + count x seen
+unfolding ids count
+count-ids x [] seen = rw zero-add
+count-ids x (e ∷ es) seen = count-ids x es (e .id ∷ seen) ∙ go (eqb x (e .id))
+  where
+    go : (b : Bool) → count x (map idOf es) + elim b [ true ↦ suc (count x seen) | false ↦ count x seen ]
+        ≡ elim b [ true ↦ suc (count x (map idOf es)) | false ↦ count x (map idOf es) ] + count x seen
+    go true = omega arith
+    go false = refl
+
+-- the message of one entry more, and its copy
+pub stamped-snoc : (es : List Entry) (e : Entry) → stamped [] (es ++ (e ∷ [])) ≡ stamped [] es ++ (stamp (count (e .id) (map idOf es)) e ∷ [])
+unfolding stamped count
+stamped-snoc es e =
+    let c : count (e .id) (ids es []) ≡ count (e .id) (map idOf es) = count-ids (e .id) es [] ∙ add-zero _ in
+    rw (stamped-append [] es (e ∷ []), c)
+
+pub rendered-snoc : (es : List Entry) (e : Entry) → rendered (es ++ (e ∷ [])) ≡ rendered es ++ write (stamp (count (e .id) (map idOf es)) e)
+unfolding rendered
+rendered-snoc es e = rw (stamped-snoc es e, map-append, join-append, append-nil)

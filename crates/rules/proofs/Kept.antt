@@ -1,0 +1,46 @@
+-- A refusal leaves a lent buffer as it was, and what is stored leaves what is behind it.
+use Prim.Native.Nat.{ℕ, zero, suc, _+_}
+use mathlib.Core.Path.{_≡_, refl, _∙_}
+use mathlib.Core.List.{List, [], _∷_}
+use native.Mathlib.Nat.{zero-add, add-suc, suc-add}
+use native.Mathlib.Omega.{arith}
+use lib.ListN.{length, drop, set}
+use lib.Seq.{sets, length-sets, drop-set-lt}
+use Rattle.rules.specs.Outcome.{Outcome, good, bad}
+use Rattle.rules.specs.Buffer.{stored}
+use Rattle.rules.specs.Copy.{Entry, rendered, answered}
+use Rattle.rules.specs.Burst.{randomizedAnswer, openedAnswer}
+use Rattle.rules.specs.Claims.{Careful}
+
+drop-sets : (s b : List ℕ) (i : ℕ) → drop (i + length s) (sets b i s) ≡ drop (i + length s) b
+drop-sets [] b i = refl
+drop-sets (x ∷ s) b i = rw (add-suc, ← suc-add) (drop-sets s (set b i x) (suc i) ∙ drop-set-lt (suc i + length s) b i x (omega arith))
+
+-- s stored at the start of a buffer
+pub careful-sets : (b s : List ℕ) → Careful 0 (length s) b (sets b 0 s)
+careful-sets b s = record { refused = λ h. absurd (h refl); behind = rw zero-add at (drop-sets s b 0); long = length-sets b 0 s }
+
+-- nothing stored
+pub careful-none : (number : ℕ) (b : List ℕ) → Careful number 0 b b
+careful-none number b = record { refused = λ h. refl; behind = refl; long = refl }
+
+pub careful-stored : (b : List ℕ) (o : Outcome (List ℕ)) → Careful (stored b o .0 .number) (stored b o .0 .bytes) b (stored b o .1)
+unfolding stored
+careful-stored b (good s) = careful-sets b s
+careful-stored b (bad n p) = careful-none n b
+
+pub careful-answered : (b : List ℕ) (o : Outcome (List Entry)) → Careful (answered b o .0 .number) (answered b o .0 .bytes) b (answered b o .1)
+unfolding answered
+careful-answered b (good es) = careful-sets b (rendered es)
+careful-answered b (bad n p) = careful-none n b
+
+-- what works in the buffer itself leaves it where it refuses
+pub kept-randomized : (b : List ℕ) (o : Outcome (List ℕ)) → (randomizedAnswer b o .0 .number ≡ 0 → ⊥) → randomizedAnswer b o .1 ≡ b
+unfolding randomizedAnswer
+kept-randomized b (good s) h = absurd (h refl)
+kept-randomized b (bad n p) h = refl
+
+pub kept-opened : (b : List ℕ) (o : Outcome (ℕ × List ℕ)) → (openedAnswer b o .0 .number ≡ 0 → ⊥) → openedAnswer b o .1 ≡ b
+unfolding openedAnswer
+kept-opened b (good r) h = absurd (h refl)
+kept-opened b (bad n p) h = refl

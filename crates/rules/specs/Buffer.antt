@@ -1,0 +1,24 @@
+-- Document 01, 'Refusal numbers' and 'The released list and the copy': what is written into a lent buffer. A refusal changes no byte, and bytes behind what is written stay.
+use Prim.Native.Nat.{ℕ}
+use mathlib.Core.List.{List}
+use lib.Dec.{ltb}
+use lib.ListN.{length}
+use lib.Seq.{sets}
+use Rattle.rules.specs.Outcome.{Outcome, good, bad, refuse, _>>_, ROOM}
+
+-- s, if the buffer has room for it
+unfoldable pub fitted : List ℕ → List ℕ → Outcome (List ℕ)
+fitted buffer s = do
+  refuse (ltb (length buffer) (length s)) ROOM (length s)
+  good s
+
+-- number and place of a refusal, and the bytes written; zero otherwise
+pub record Written : Type 0 where
+  pub number : ℕ
+  pub place : ℕ
+  pub bytes : ℕ
+
+-- the answer, and the buffer after it
+unfoldable pub stored : List ℕ → Outcome (List ℕ) → Written × List ℕ
+stored buffer (bad n p) = (record { number = n; place = p; bytes = 0 }, buffer)
+stored buffer (good s) = (record { number = 0; place = 0; bytes = length s }, sets buffer 0 s)

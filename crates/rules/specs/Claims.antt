@@ -1,0 +1,160 @@
+-- The demands as statements, to be read without any proof. proofs/Claims.antt proves each; docs/PROMISES.md says which function's promise makes it speak of the code.
+use Prim.Native.Nat.{ℕ, _+_, _*_, _%_, _≤_}
+use mathlib.Core.Path.{_≡_}
+use mathlib.Core.Logic.{_↔_}
+use mathlib.Core.Bool.{true}
+use mathlib.Core.List.{List, [], _∷_, _++_, map}
+use lib.ListN.{length, getD, drop}
+use Rattle.rules.specs.Outcome.{good, bad, PACKAGE}
+use Rattle.rules.specs.Bytes.{Bytes, any}
+use Rattle.rules.specs.Packages.{Package, cut, packageOf, Fills}
+use Rattle.rules.specs.Message.{mostBytes, Head, head, payload, fragmentBits, standardBit, runLength, Message, message}
+use Rattle.rules.specs.Reading.{optionRun}
+use Rattle.rules.specs.Walk.{Walks}
+use Rattle.rules.specs.Writer.{write, Draft, accepted, written, writer}
+use Rattle.rules.specs.Clean.{clean, cleaner}
+use Rattle.rules.specs.Valid.{Valid, DraftFits}
+use Rattle.rules.specs.Sheet.{Row}
+use Rattle.rules.specs.Copy.{granted, Entry, idOf, count, stamp, stamped, rendered, packagesIn, releasedOf, copy, delivered}
+use Rattle.rules.specs.Burst.{_xor_, bit, sequenceByte, sequenceBytes, randomized, randomizer, opener}
+use Rattle.rules.specs.Table.{Table}
+
+-- ---- Demand 1: a refusal changes no byte of the caller's buffers, and what is written changes none behind it.
+
+-- `after` and `bytes` are the buffer and the number of bytes written that an entry point leaves behind
+pub record Careful (number bytes : ℕ) (buffer after : List ℕ) : Type 0 where
+  pub refused : (number ≡ 0 → ⊥) → after ≡ buffer
+  pub behind : drop bytes after ≡ drop bytes buffer
+  pub long : length after ≡ length buffer
+
+pub record BuffersKept : Type 0 where
+  pub writer : (d : Draft) (buffer : List ℕ) → Careful (writer d buffer .0 .number) (writer d buffer .0 .bytes) buffer (writer d buffer .1)
+  pub cleaner : (s buffer : List ℕ) → Careful (cleaner s buffer .0 .number) (cleaner s buffer .0 .bytes) buffer (cleaner s buffer .1)
+  pub copy : (sheet recording buffer : List ℕ) → Careful (copy sheet recording buffer .0 .number) (copy sheet recording buffer .0 .bytes) buffer (copy sheet recording buffer .1)
+  pub randomizer : (buffer : List ℕ) → (randomizer buffer .0 .number ≡ 0 → ⊥) → randomizer buffer .1 ≡ buffer
+  pub opener : (buffer : List ℕ) → (opener buffer .0 .number ≡ 0 → ⊥) → opener buffer .1 ≡ buffer
+
+-- ---- Demand 2: reading, writing, cleaning and copying equal document 01.
+
+-- Written and read again gives the same record, wherever it stands and whatever follows it.
+abbrev pub WrittenRead : Type 0
+WrittenRead = (m : Message) → Valid m → (p : ℕ) (behind : List ℕ) → message p (write m ++ behind) ≡ good (m, length (write m))
+
+-- What the writer accepts, and what a reading gives, is a valid record.
+abbrev pub AcceptedValid : Type 0
+AcceptedValid = (d : Draft) → DraftFits d → (m : Message) → accepted d ≡ good m → Valid m
+
+abbrev pub ReadValid : Type 0
+ReadValid = (p : ℕ) (s : List ℕ) → Bytes s → length s ≤ mostBytes → (m : Message) (n : ℕ) → message p s ≡ good (m, n) → Valid m
+
+-- Read and written again gives the clean form.
+abbrev pub ReadWritten : Type 0
+ReadWritten = (s : List ℕ) → Bytes s → (m : Message) (n : ℕ) → message 0 s ≡ good (m, n) → clean s ≡ good (write m)
+
+-- The parts of a message that was read, handed to the writer as they stand in its bytes, give its clean form.
+abbrev pub partsOf : List ℕ → Head → Draft
+partsOf s h = record {
+  flags = h .flags;
+  id = h .id;
+  sequence = h .sequence;
+  seconds = h .seconds;
+  nanos = h .nanos;
+  options = optionRun s;
+  packages = payload s h;
+}
+
+abbrev pub PartsWritten : Type 0
+PartsWritten = (s : List ℕ) → Bytes s → length s ≤ mostBytes → (m : Message) (n : ℕ) → message 0 s ≡ good (m, n) → written (partsOf s (head s)) ≡ clean s
+
+-- Cleaning twice changes nothing more, whatever follows the message.
+abbrev pub CleanTwice : Type 0
+CleanTwice = (s c behind : List ℕ) → Bytes s → length s ≤ mostBytes → Bytes behind → clean s ≡ good c → clean (c ++ behind) ≡ good c
+
+-- Two messages have equal clean forms exactly if their records are equal.
+abbrev pub CleanExactly : Type 0
+CleanExactly = (s t : List ℕ) → Bytes s → Bytes t → length s ≤ mostBytes → length t ≤ mostBytes → (m l : Message) (n k : ℕ)
+    → message 0 s ≡ good (m, n) → message 0 t ≡ good (l, k) → (clean s ≡ clean t) ↔ (m ≡ l)
+
+-- A payload is refused as PACKAGE exactly if no cut into packages fills it. The message at the start of s has passed checks 1 to 9.
+pub record PassesToNine (p : ℕ) (s : List ℕ) : Type 0 where
+  pub run : ℕ
+  pub options : runLength p s (head s) ≡ good run
+  pub whole : fragmentBits (head s .flags) ≡ 0
+  pub standard : standardBit (head s .flags) ≡ any (payload s (head s))
+
+abbrev pub PackageExactly : Type 0
+PackageExactly = (p : ℕ) (s : List ℕ) → PassesToNine p s
+    → ((q : ℕ) × (message p s ≡ bad PACKAGE q)) ↔ ((pieces : List (List ℕ)) → Fills pieces (payload s (head s)) → ⊥)
+
+-- The packages fill the payload, in one way only: a run is cut into these pieces exactly if they fill it.
+abbrev pub CutExactly : Type 0
+CutExactly = (p : ℕ) (s : List ℕ) (pieces : List (List ℕ)) → (cut p s ≡ good pieces) ↔ Fills pieces s
+
+-- A walk shows every package of the cut, in order, and then the end.
+abbrev pub WalkShowsAll : Type 0
+WalkShowsAll = (s : List ℕ) → length s ≤ mostBytes → (pieces : List (List ℕ)) → cut 0 s ≡ good pieces → Walks s 0 (map packageOf pieces)
+
+-- A package is granted exactly if message id, package id and package time all lie in the ranges of some row, ends included.
+pub record InRanges (m : Message) (k : Package) (r : Row) : Type 0 where
+  pub message-first : r .firstMessage ≤ m .id
+  pub message-last : m .id ≤ r .lastMessage
+  pub package-first : r .firstPackage ≤ k .id
+  pub package-last : k .id ≤ r .lastPackage
+  pub start : r .startSeconds * 1000000000 + r .startNanos ≤ m .seconds * 1000000000 + m .nanos + k .delta
+  pub end : m .seconds * 1000000000 + m .nanos + k .delta ≤ r .endSeconds * 1000000000 + r .endNanos
+
+pub data Some {A : Type 0} (P : A → Type 0) : List A → Type 0 where
+  here : {a : A} {l : List A} → P a → Some P (a ∷ l)
+  there : {a : A} {l : List A} → Some P l → Some P (a ∷ l)
+
+abbrev pub GrantedExactly : Type 0
+GrantedExactly = (rows : List Row) (m : Message) (k : Package) → (granted rows m k ≡ true) ↔ Some (InRanges m k) rows
+
+-- Each bit of the randomizer's sequence behind the first eight is the exclusive-or of those 8, 5, 3 and 1 places before it.
+abbrev pub Recurrence : Type 0
+Recurrence = (n : ℕ) → bit (8 + n) ≡ bit n xor bit (3 + n) xor bit (5 + n) xor bit (7 + n)
+
+-- The sequence repeats after 255 bits, and its bytes after 255 bytes: for every k, byte k is entry k modulo 255 of one period.
+abbrev pub BitPeriod : Type 0
+BitPeriod = (n : ℕ) → bit (n + 255) ≡ bit n
+
+abbrev pub TableEntry : Type 0
+TableEntry = (k : ℕ) → sequenceByte k ≡ getD (sequenceBytes 0 255) (k % 255) 0
+
+-- Randomizing twice gives the buffer back.
+abbrev pub RandomizedTwice : Type 0
+RandomizedTwice = (s : List ℕ) → randomized 0 (randomized 0 s) ≡ s
+
+-- The numbers to check by, P1 to P12.
+abbrev pub TableHolds : Type 0
+TableHolds = Table
+
+-- ---- Demand 3: the copy talks about nothing but what was released.
+
+-- Equal released lists (or equal refusals in their place) give equal answers, counts, refusals and buffers, whatever else differs in recordings and sheets.
+abbrev pub SameCopies : Type 0
+SameCopies = (sheet sheet′ recording recording′ buffer : List ℕ) → releasedOf sheet recording ≡ releasedOf sheet′ recording′ → copy sheet recording buffer ≡ copy sheet′ recording′ buffer
+
+-- Released lists that differ, and room for both, give copies that differ.
+abbrev pub DifferentCopies : Type 0
+DifferentCopies = (sheet sheet′ recording recording′ buffer buffer′ : List ℕ) → Bytes recording → Bytes recording′ → (es es′ : List Entry)
+    → releasedOf sheet recording ≡ good es → releasedOf sheet′ recording′ ≡ good es′ → length (rendered es) ≤ length buffer → length (rendered es′) ≤ length buffer′
+    → (es ≡ es′ → ⊥) → delivered (copy sheet recording buffer) ≡ delivered (copy sheet′ recording′ buffer′) → ⊥
+
+-- With room, the copy is the released list's, and its counts are the released list's lengths.
+abbrev pub CountsReleased : Type 0
+CountsReleased = (sheet recording buffer : List ℕ) (es : List Entry) → releasedOf sheet recording ≡ good es → length (rendered es) ≤ length buffer
+    → (copy sheet recording buffer .0 ≡ record { number = 0; place = 0; bytes = length (rendered es); messages = length es; packages = packagesIn es })
+    × (delivered (copy sheet recording buffer) ≡ rendered es)
+
+-- The sequence number of an entry's message is how many of the entries before it have its message id.
+abbrev pub SequenceCounted : Type 0
+SequenceCounted = (before : List Entry) (e : Entry) → stamped [] (before ++ (e ∷ [])) ≡ stamped [] before ++ (stamp (count (e .id) (map idOf before)) e ∷ [])
+
+-- ---- What a promise allows: where `told` tells answers apart, any two answers that a promise `told r ≡ d` allows are identical.
+
+abbrev pub TellsApart : {A B : Type 0} → (A → B) → Type 0
+TellsApart {A} told = (a b : A) → told a ≡ told b → a ≡ b
+
+abbrev pub OneOutcome : Type 1
+OneOutcome = (A B : Type 0) (told : A → B) → TellsApart told → (d : B) (a b : A) → told a ≡ d → told b ≡ d → a ≡ b

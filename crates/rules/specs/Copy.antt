@@ -1,0 +1,109 @@
+-- Document 01, 'The released list and the copy': what a recording releases under a sheet, and the messages, the answer and the buffer of the copy.
+use Prim.Native.Nat.{ℕ, suc, _+_, _*_, _/_, _%_}
+use mathlib.Core.Bool.{Bool, true, false, _||_}
+use mathlib.Core.List.{List, [], _∷_, map}
+use lib.Dec.{ltb, eqb}
+use lib.ListN.{length, take}
+use lib.Seq.{sets}
+use Rattle.rules.specs.Outcome.{Outcome, good, bad, refuse, _>>_, _>>=_, ROOM}
+use Rattle.rules.specs.Bytes.{join}
+use Rattle.rules.specs.Packages.{Package, packageTime}
+use Rattle.rules.specs.Message.{Message, recording}
+use Rattle.rules.specs.Writer.{write}
+use Rattle.rules.specs.Sheet.{Row, sheet, grants}
+
+-- some row grants package p of message m
+unfoldable pub granted : List Row → Message → Package → Bool
+granted [] m p = false
+granted (r ∷ rs) m p = grants (m .id) (p .id) (packageTime (m .seconds) (m .nanos) (p .delta)) r || granted rs m p
+
+-- bits 3, 2 and 1 of a record's flags, which the released list has, each at its place
+abbrev pub listedBits : ℕ → ℕ
+listedBits flags = flags / 2 % 8 * 2
+
+-- an entry of the released list; flags holds bits 3, 2 and 1
+pub record Entry : Type 0 where
+  pub id : ℕ
+  pub seconds : ℕ
+  pub nanos : ℕ
+  pub flags : ℕ
+  pub packages : List Package
+
+abbrev pub idOf : Entry → ℕ
+idOf e = e .id
+
+-- the granted ones of the packages of m, in order
+unfoldable pub granteds : List Row → Message → List Package → List Package
+granteds rs m [] = []
+granteds rs m (p ∷ ps) = elim (granted rs m p) [ true ↦ p ∷ granteds rs m ps | false ↦ granteds rs m ps ]
+
+-- the entries es of the messages behind m, with one for m in front if it has a granted package
+unfoldable pub enter : Message → List Package → List Entry → List Entry
+enter m [] es = es
+enter m (p ∷ ps) es = record { id = m .id; seconds = m .seconds; nanos = m .nanos; flags = listedBits (m .flags); packages = p ∷ ps } ∷ es
+
+-- the released list, in recording order
+unfoldable pub released : List Row → List Message → List Entry
+released rs [] = []
+released rs (m ∷ ms) = enter m (granteds rs m (m .packages)) (released rs ms)
+
+-- how often x stands in l
+unfoldable pub count : ℕ → List ℕ → ℕ
+count x [] = 0
+count x (y ∷ l) = elim (eqb x y) [ true ↦ suc (count x l) | false ↦ count x l ]
+
+-- flag bit 6
+abbrev pub playback : ℕ
+playback = 64
+
+-- the message of the copy for an entry, with sequence number n: no options, playback set
+unfoldable pub stamp : ℕ → Entry → Message
+stamp n e = record { flags = playback + e .flags; id = e .id; sequence = n; seconds = e .seconds; nanos = e .nanos; options = []; packages = e .packages }
+
+-- the copy's messages. `seen` holds the message ids of the earlier entries: a sequence number is how many of them are this one
+unfoldable pub stamped : List ℕ → List Entry → List Message
+stamped seen [] = []
+stamped seen (e ∷ es) = stamp (count (e .id) seen) e ∷ stamped (e .id ∷ seen) es
+
+-- the bytes of the copy
+unfoldable pub rendered : List Entry → List ℕ
+rendered es = join (map write (stamped [] es))
+
+unfoldable pub packagesIn : List Entry → ℕ
+packagesIn [] = 0
+packagesIn (e ∷ es) = length (e .packages) + packagesIn es
+
+-- what the copy reports
+pub record Answer : Type 0 where
+  pub number : ℕ
+  pub place : ℕ
+  pub bytes : ℕ
+  pub messages : ℕ
+  pub packages : ℕ
+
+-- the released list of a recording under a sheet, if both pass
+unfoldable pub releasedOf : List ℕ → List ℕ → Outcome (List Entry)
+releasedOf orders tape = do
+  rs ← sheet orders
+  ms ← recording tape
+  good (released rs ms)
+
+-- the released list, if the buffer has room for its copy
+unfoldable pub roomFor : List ℕ → List Entry → Outcome (List Entry)
+roomFor buffer es = do
+  refuse (ltb (length buffer) (length (rendered es))) ROOM (length (rendered es))
+  good es
+
+-- the answer, and the buffer after it
+unfoldable pub answered : List ℕ → Outcome (List Entry) → Answer × List ℕ
+answered buffer (bad n p) = (record { number = n; place = p; bytes = 0; messages = 0; packages = 0 }, buffer)
+answered buffer (good es) =
+    (record { number = 0; place = 0; bytes = length (rendered es); messages = length es; packages = packagesIn es }, sets buffer 0 (rendered es))
+
+-- the copy of a recording under the bytes of a sheet
+unfoldable pub copy : List ℕ → List ℕ → List ℕ → Answer × List ℕ
+copy orders tape buffer = answered buffer (releasedOf orders tape >>= roomFor buffer)
+
+-- the copy itself: the buffer's first so many bytes
+abbrev pub delivered : Answer × List ℕ → List ℕ
+delivered a = take (a .0 .bytes) (a .1)

@@ -1,0 +1,18 @@
+-- Document 01, 'Refusal numbers': messages follow each other to the last byte; so do the packages of a payload and the rows of a sheet.
+use Prim.Native.Nat.{ℕ, zero, suc, _-_}
+use mathlib.Core.List.{List, [], _∷_}
+use Rattle.rules.specs.Outcome.{Outcome, good, _>>=_, _∷>_}
+
+-- The items of a list that stands at place p. `read` reads the item at the start of a list that stands at a place, and says how many bytes it takes.
+-- The number before p counts the bytes of the item before that are still to pass
+unfoldable pub items : {A : Type 0} → (ℕ → List ℕ → Outcome (A × ℕ)) → ℕ → ℕ → List ℕ → Outcome (List A)
+items read k p [] = good []
+items read (suc k) p (x ∷ xs) = items read k (suc p) xs
+items read zero p (x ∷ xs) = do
+  (a, n) ← read p (x ∷ xs)
+  a ∷> items read (n - 1) (suc p) xs
+
+-- P holds of each element
+pub data All {A : Type 0} (P : A → Type 0) : List A → Type 0 where
+  all-nil : All P []
+  all-cons : {a : A} {l : List A} → P a → All P l → All P (a ∷ l)

@@ -1,0 +1,85 @@
+-- Document 01, 'The order sheet': rows of 256 bits, most significant first; which rows keep the rules, and which packages a row grants.
+use Prim.Native.Nat.{ℕ, zero, _+_, _-_, _*_, _/_, _%_, _^_}
+use mathlib.Core.Bool.{Bool, not, _&&_, _||_}
+use mathlib.Core.List.{List, [], _∷_, _++_}
+use lib.Dec.{leb, ltb, eqb}
+use lib.ListN.{length, take, replicate}
+use Rattle.rules.specs.Outcome.{Outcome, good, bad, refuse, _>>_, _>>=_, ROW}
+use Rattle.rules.specs.Items.{items}
+use Rattle.rules.specs.Packages.{instant}
+use Rattle.rules.specs.Message.{mostNanos}
+
+-- the number n, followed by the digits s at base 256
+unfoldable pub number : ℕ → List ℕ → ℕ
+number n [] = n
+number n (x ∷ s) = number (n * 256 + x) s
+
+-- the bytes of a row, and the most rows of a sheet
+abbrev pub rowBytes : ℕ
+rowBytes = 32
+
+abbrev pub mostRows : ℕ
+mostRows = 32
+
+pub record Row : Type 0 where
+  pub firstMessage : ℕ
+  pub lastMessage : ℕ
+  pub firstPackage : ℕ
+  pub lastPackage : ℕ
+  pub startSeconds : ℕ
+  pub startNanos : ℕ
+  pub endSeconds : ℕ
+  pub endNanos : ℕ
+  pub spare : ℕ
+
+-- the fields of a row's 256 bits, the first the highest
+unfoldable pub rowOf : ℕ → Row
+rowOf n = record {
+  firstMessage = n / 2 ^ 224 % 2 ^ 32;
+  lastMessage = n / 2 ^ 192 % 2 ^ 32;
+  firstPackage = n / 2 ^ 160 % 2 ^ 32;
+  lastPackage = n / 2 ^ 128 % 2 ^ 32;
+  startSeconds = n / 2 ^ 96 % 2 ^ 32;
+  startNanos = n / 2 ^ 66 % 2 ^ 30;
+  endSeconds = n / 2 ^ 34 % 2 ^ 32;
+  endNanos = n / 2 ^ 4 % 2 ^ 30;
+  spare = n % 2 ^ 4;
+}
+
+-- in each pair first ≤ last and start ≤ end; nanoseconds within a second; spare bits zero
+unfoldable pub rowFits : Row → Bool
+rowFits r =
+    leb (r .firstMessage) (r .lastMessage) && leb (r .firstPackage) (r .lastPackage)
+    && leb (r .startNanos) mostNanos && leb (r .endNanos) mostNanos
+    && leb (instant (r .startSeconds) (r .startNanos)) (instant (r .endSeconds) (r .endNanos)) && eqb (r .spare) 0
+
+-- the row at the start of s, which stands at place p; and how long it is
+unfoldable pub row : ℕ → List ℕ → Outcome (Row × ℕ)
+row p s = do
+  let r = rowOf (number 0 (take rowBytes s))
+  refuse (not (rowFits r)) ROW p
+  good (r, rowBytes)
+
+-- the rows of a sheet: its size is looked at before its rows
+unfoldable pub sheet : List ℕ → Outcome (List Row)
+sheet s = do
+  refuse (ltb (mostRows * rowBytes) (length s) || not (eqb (length s % rowBytes) 0)) ROW (length s)
+  items row zero zero s
+
+-- what reading hands out: as many rows as a sheet can have, zero behind the last, and how many of them are the sheet's
+unfoldable pub sheetRows : List ℕ → Outcome (List Row × ℕ)
+sheetRows s = do
+  rs ← sheet s
+  good (rs ++ replicate (mostRows - length rs) (rowOf 0), length rs)
+
+-- and what it shows: zero rows, none of them the sheet's, where the sheet is refused
+unfoldable pub shownRows : Outcome (List Row × ℕ) → List Row × ℕ
+shownRows (good x) = x
+shownRows (bad n p) = (replicate mostRows (rowOf 0), 0)
+
+-- message id, package id and package time all lie in the row's ranges, ends included
+unfoldable pub grants : ℕ → ℕ → ℕ → Row → Bool
+grants messageId packageId time r =
+    leb (r .firstMessage) messageId && leb messageId (r .lastMessage)
+    && leb (r .firstPackage) packageId && leb packageId (r .lastPackage)
+    && leb (instant (r .startSeconds) (r .startNanos)) time && leb time (instant (r .endSeconds) (r .endNanos))
