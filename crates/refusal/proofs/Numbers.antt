@@ -1,0 +1,53 @@
+-- A number belongs to one case of the table only, and none is 0: equal outcomes are equal refusals.
+use mathlib.Core.Path.{_≡_, refl, sym, ap, ap₂, _∙_}
+use mathlib.Core.List.{List, [], _∷_}
+use Prim.Native.Nat.{ℕ, _-_}
+use native.Mathlib.Omega.{arith}
+use lib.ListN.{getD}
+use Rattle.rules.specs.Outcome.{Outcome, bad}
+use Rattle.rules.specs.Claims.{TellsApart}
+use Rattle.refusal.specs.Numbers.{numberOf, refused}
+use Rattle.refusal.specs.declared.Why.{Why}
+use Rattle.refusal.specs.declared.Why.the-variants.{Short, Version, Kind, Length, Cut, Time, Option, Fragment, Standard, Package, Row, Large, Room, Marker, Blocks}
+use Rattle.refusal.specs.declared.Refusal.{Refusal}
+
+-- the case that has a number: the table's rows in their order
+whyOf : ℕ → Why
+whyOf n = getD (Short ∷ Version ∷ Kind ∷ Length ∷ Cut ∷ Time ∷ Option ∷ Fragment ∷ Standard ∷ Package ∷ Row ∷ Large ∷ Room ∷ Marker ∷ Blocks ∷ []) (n - 1) Short
+
+back : (w : Why) → whyOf (numberOf w) ≡ w
+unfolding whyOf
+back Short = refl
+back Version = refl
+back Kind = refl
+back Length = refl
+back Cut = refl
+back Time = refl
+back Option = refl
+back Fragment = refl
+back Standard = refl
+back Package = refl
+back Row = refl
+back Large = refl
+back Room = refl
+back Marker = refl
+back Blocks = refl
+
+pub number-injective : TellsApart numberOf
+number-injective v w e = sym (back v) ∙ ap whyOf e ∙ back w
+
+pub number-positive : (w : Why) → numberOf w ≡ 0 → ⊥
+unfolding whyOf
+number-positive w e =
+    let z : _≡_ {A = ℕ} 1 0 = ap numberOf (ap whyOf (sym e) ∙ back w) ∙ e in
+    omega arith
+
+bad-inj : {A : Type 0} {m n p q : ℕ} → _≡_ {A = Outcome A} (bad m p) (bad n q) → (m ≡ n) × (p ≡ q)
+bad-inj e = (cc, cc)
+
+-- the same refusal, by its number and its place
+pub same-refusal : (r q : Refusal) → numberOf (r .why) ≡ numberOf (q .why) → r .place ≡ q .place → r ≡ q
+same-refusal r q e f = ap₂ (λ (w : Why) (p : ℕ). record { why = w; place = p }) (number-injective (r .why) (q .why) e) f
+
+pub refused-injective : {A : Type 0} (r q : Refusal) → _≡_ {A = Outcome A} (refused r) (refused q) → r ≡ q
+refused-injective r q e = let b = bad-inj e in same-refusal r q (b .0) (b .1)
