@@ -1,0 +1,8 @@
+pub mod Tests
+pub mod Checks
+pub mod Opts
+pub mod Pieces
+pub mod Headers
+pub mod Messages
+pub mod Same
+pub mod Agrees

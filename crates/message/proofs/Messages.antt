@@ -1,0 +1,214 @@
+-- Checks 8 to 10, the message at a place, and the loop over a recording.
+use Prim.Native.Nat.{ℕ, zero, suc, _+_, _-_, _*_, _/_, _%_, _≤_, _<_}
+use mathlib.Core.Path.{_≡_, refl, sym, ap, subst, _∙_}
+use mathlib.Core.Logic.{⊎-elim}
+use mathlib.Core.Bool.{Bool, true, false, not}
+use mathlib.Core.List.{List, [], _∷_, _++_, map}
+use native.Mathlib.Nat.{add-zero}
+use native.Mathlib.Omega.{arith}
+use borrow.Author.Tests.{lt-ltb, le-ltb, ltb-true, ltb-false}
+use lib.Dec.{ltb, eqb}
+use lib.ListN.{length, take, drop, length-take, length-drop, length-append, length-map, drop-of-length-le}
+use lib.Seq.{drop-cons, length-take-le}
+use Rattle.rules.specs.Outcome.{Outcome, good, bad, refuse, _>>_, _>>=_, SHORT, LARGE, FRAGMENT, STANDARD}
+use Rattle.rules.specs.Bytes.{at, part, any}
+use Rattle.rules.specs.Items.{items}
+use Rattle.rules.specs.Packages.{Fills, none, more, cut, packageOf}
+use Rattle.rules.specs.Message.{Head, head, front, checked, runLength, framed, parsed, Message, recordOf, message, recording}
+use Rattle.rules.specs.Reading.{packagesOf, counted}
+use Rattle.rules.proofs.Outcomes.{pass, halt, step, stop, stepped, stop-before, good-inj, good≢bad, refused-step}
+use Rattle.rules.proofs.Passed.{passes}
+use Rattle.rules.proofs.Loops.{rest, Doing, doing-start, doing-next, doing-end, doing-bad}
+use Rattle.rules.proofs.Cut as Cut
+use Rattle.message.proofs.Tests.{is, isnt}
+use Rattle.message.proofs.Checks.{short}
+use Rattle.message.specs.Answers.{headOf, headerOf, between, Opened, cutCount, framedSpot, messageHere, toldMessage}
+use Rattle.rules.specs.Reading.{MessageSpot, messageSpot, messageAt}
+use Rattle.message.specs.declared.Raw.{Raw}
+use Rattle.message.specs.declared.Header.{Header}
+use Rattle.message.specs.declared.MessageRead.the-variants as messageRead
+
+-- a part is empty or not by its ends
+any-part : (s : List ℕ) (a e : ℕ) → e ≤ length s → any (part a e s) ≡ between a e
+unfolding between
+any-part s a e h = go (ltb a e) refl
+  where
+    go : (b : Bool) → ltb a e ≡ b → any (part a e s) ≡ between a e
+    go true t =
+        let l : a < e = ltb-true _ _ t in
+        let m : a < length s = omega arith in
+        let k : e - a ≡ suc (e - suc a) = omega arith in
+        rw (t, between) (rw (k, drop-cons s a 0 m))
+    go false t =
+        let l : e ≤ a = ltb-false _ _ t in
+        let k : e - a ≡ 0 = omega arith in
+        rw (t, between) (rw k)
+
+uncut : (p : ℕ) (s : List ℕ) {m q : ℕ} → cutCount p s ≡ bad m q → cut p s ≡ bad m q
+unfolding cutCount
+uncut p s e = ⊎-elim (λ z. z) (λ z. absurd (good≢bad (sym (z .2)))) (refused-step _ _ e)
+
+module _ (p : ℕ) (s : List ℕ) (h : Head) (n : ℕ) where
+  pub fragment : (h .flags / 16 % 4 ≡ 0 → ⊥) → bad FRAGMENT p ≡ framedSpot p s h n
+  unfolding framedSpot framed
+  fragment a = sym (stop _ _ (halt _ _ _ _ (isnt (h .flags / 16 % 4) 0 a)))
+
+  module _ (a : h .flags / 16 % 4 ≡ 0) (o : Opened s h p) (f z : ℕ) (ef : f ≡ 24 + 4 * h .words) (ez : z ≡ h .size) (b : ℕ) (eb : b ≡ between f z) where
+    some-payload : any (part (front h) (h .size) s) ≡ b
+    some-payload = any-part s (front h) (h .size) (o .most) ∙ rw (← ef, ← ez) (sym eb)
+
+    pub standard : (h .flags / 128 % 2 ≡ b → ⊥) → bad STANDARD p ≡ framedSpot p s h n
+    unfolding framedSpot framed
+    standard c =
+        let q : any (part (front h) (h .size) s) ≡ b = some-payload in
+        sym (stop _ _ (pass _ _ _ _ (is (h .flags / 16 % 4) 0 a) (halt _ _ _ _ (isnt (h .flags / 128 % 2) (any (part (front h) (h .size) s)) (λ w. c (w ∙ q))))))
+
+    module _ (c : h .flags / 128 % 2 ≡ b) where
+      fits : h .flags / 128 % 2 ≡ any (part (front h) (h .size) s)
+      fits = c ∙ sym some-payload
+
+      pub no-cut : {m q : ℕ} → bad m q ≡ cutCount (p + f) (take (z - f) (drop f s)) → bad m q ≡ framedSpot p s h n
+      unfolding framedSpot framed cutCount
+      no-cut {m} {q} e =
+          let g : cutCount (p + front h) (part (front h) (h .size) s) ≡ bad m q = sym (rw (ef, ez) at e) in
+          sym (stop _ _ (pass _ _ _ _ (is (h .flags / 16 % 4) 0 a) (pass _ _ _ _ (is (h .flags / 128 % 2) (any (part (front h) (h .size) s)) fits) (uncut (p + front h) (part (front h) (h .size) s) g))))
+
+      pub whole : (k : ℕ) → good k ≡ cutCount (p + f) (take (z - f) (drop f s)) → good (record { head = h; run = n; payload = p + f; next = p + z; packages = k }) ≡ framedSpot p s h n
+      unfolding framedSpot framed cutCount messageSpot
+      whole k e =
+          let (cs, g, d) = stepped _ _ (sym (rw (ef, ez) at e)) in
+          let w : length cs ≡ k = good-inj d in
+          sym (step _ _ (pass _ _ _ _ (is (h .flags / 16 % 4) 0 a) (pass _ _ _ _ (is (h .flags / 128 % 2) (any (part (front h) (h .size) s)) fits) g)) (rw (w, ef, ez)))
+
+-- the header as it is told
+pub told : (h : Raw) (n : ℕ) (r : Header) (x y k : ℕ) {o : Outcome MessageSpot} → h .version ≡ 1 → h .kind ≡ 0 → r ≡ headerOf h n
+    → good (record { head = headOf h; run = n; payload = x; next = y; packages = k }) ≡ o
+    → toldMessage (messageRead.Message (record { header = r; payload = x; next = y; packages = k })) ≡ o
+told h n r x y k v w er g = rw er (rw (v, w) at g)
+
+-- ---- checks 1 to 10
+regroup : (o : Outcome (List (List ℕ))) (n : ℕ) (f : ℕ × List (List ℕ) → MessageSpot)
+    → ((o >>= λ (cs : List (List ℕ)). good (n, cs)) >>= λ (r : ℕ × List (List ℕ)). good (f r)) ≡ (o >>= λ (cs : List (List ℕ)). good (f (n, cs)))
+unfolding _>>=_
+regroup (good cs) n f = refl
+regroup (bad x y) n f = refl
+
+module _ (p : ℕ) (s : List ℕ) (h : Raw) (eh : headOf h ≡ head s) where
+  pub not-open : {n q : ℕ} → bad n q ≡ runLength p s (headOf h) → bad n q ≡ messageHere p s
+  unfolding messageHere parsed
+  not-open e = sym (stop _ _ (stop _ _ (rw (← eh) (sym e))))
+
+  pub framing : (n : ℕ) {o : Outcome MessageSpot} → good n ≡ runLength p s (headOf h) → o ≡ framedSpot p s (headOf h) n → o ≡ messageHere p s
+  unfolding messageHere parsed framedSpot
+  framing n e f =
+      let g : runLength p s (head s) ≡ good n = rw (← eh) (sym e) in
+      (rw eh at f) ∙ sym (ap (λ (x : Outcome (ℕ × List (List ℕ))). x >>= λ (r : ℕ × List (List ℕ)). good (messageSpot p (head s) r)) (step _ _ g refl) ∙ regroup _ _ _)
+
+-- ---- the message at a place of a recording
+module _ (s : List ℕ) (p : ℕ) where
+  pub large : 65536 < length s → bad LARGE 65536 ≡ messageAt s p
+  unfolding messageAt
+  large a = sym (halt _ _ _ _ (lt-ltb 65536 (length s) a))
+
+  module _ (a : length s ≤ 65536) where
+    pub behind : length s < p → bad SHORT p ≡ messageAt s p
+    unfolding messageAt messageHere parsed runLength
+    behind b =
+        let e : checked p (drop p s) (head (drop p s)) ≡ bad SHORT p = sym (short p (drop p s) (head (drop p s)) (omega (arith, length-drop p s))) in
+        sym (pass _ _ _ _ (le-ltb 65536 (length s) a) (stop _ _ (stop _ _ (stop-before _ _ e))))
+
+    pub here : {o : Outcome MessageSpot} → o ≡ messageHere p (take (length s - p) (drop p s)) → o ≡ messageAt s p
+    unfolding messageAt messageHere
+    here e = sym (pass _ _ _ _ (le-ltb 65536 (length s) a) (sym (rw rest at e)))
+
+-- ---- the loop over a recording
+
+-- pieces that fill a payload: each has 12 bytes at least
+pub fill-least : {cs : List (List ℕ)} {s : List ℕ} → Fills cs s → 12 * length cs ≤ length s
+fill-least none = omega arith
+fill-least (more {c = c} {cs = cs} {s = s} q r) = omega (arith, q .least, q .whole, fill-least r, length-append c s)
+
+-- what a message that was read says of the recording's record
+pub record Reads (p : ℕ) (s : List ℕ) (d : MessageSpot) : Type 0 where
+  pub record′ : Message
+  pub size : ℕ
+  pub reads : message p s ≡ good (record′, size)
+  pub next : d .next ≡ p + size
+  pub packages : length (record′ .packages) ≡ d .packages
+  pub least : 24 + 12 * d .packages ≤ size
+  pub most : size ≤ length s
+
+pub reading : (p : ℕ) (s : List ℕ) (d : MessageSpot) → messageHere p s ≡ good d → Reads p s d
+unfolding messageHere message messageSpot recordOf
+reading p s d e =
+    let (r, g, f) = stepped _ _ e in
+    let q : messageSpot p (head s) r ≡ d = good-inj f in
+    let w = passes p s (head s) r g in
+    let l = fill-least (Cut.sound 0 (p + front (head s)) (part (front (head s)) (head s .size) s) (w .packages)) in
+    let m : length (part (front (head s)) (head s .size) s) ≡ head s .size - front (head s) = length-take-le (head s .size - front (head s)) (drop (front (head s)) s) (omega (arith, length-drop (front (head s)) s, w .header .most)) in
+    rw (← q) (record {
+      record′ = recordOf s (head s) r;
+      size = head s .size;
+      reads = step _ _ g refl;
+      next = refl;
+      packages = length-map (r .1) packageOf;
+      least = omega (arith, l, w .header .least);
+      most = w .header .most;
+    })
+
+unread : (p : ℕ) (s : List ℕ) {n q : ℕ} → messageHere p s ≡ bad n q → message p s ≡ bad n q
+unfolding messageHere message
+unread p s e = ⊎-elim (λ z. stop _ _ z) (λ z. absurd (good≢bad (sym (z .2)))) (refused-step _ _ e)
+
+packages-snoc : (l : List Message) (m : Message) → packagesOf (l ++ (m ∷ [])) ≡ packagesOf l + length (m .packages)
+unfolding packagesOf
+packages-snoc [] m = omega arith
+packages-snoc (x ∷ l) m = rw (packages-snoc l m) (omega arith)
+
+pub record Checking (s : List ℕ) (i m n : ℕ) : Type 0 where
+  pub done : List Message
+  pub many : length done ≡ m
+  pub packs : packagesOf done ≡ n
+  pub few : 24 * m + 12 * n ≤ i
+  pub inside : i ≤ length s
+  pub doing : Doing message s done i
+
+pub start : (s : List ℕ) → Checking s 0 0 0
+unfolding packagesOf
+start s = record { done = []; many = refl; packs = refl; few = omega arith; inside = omega arith; doing = doing-start message s }
+
+pub record Onward (s : List ℕ) (i m n : ℕ) (d : MessageSpot) : Type 0 where
+  pub less : i < d .next
+  pub checking : Checking s (d .next) (m + 1) (n + d .packages)
+
+module _ (s : List ℕ) (i m n : ℕ) (c : Checking s i m n) where
+  behind-one : (d : MessageSpot) → i < length s → Reads i (drop i s) d → Onward s i m n d
+  behind-one d l r =
+      let x = r .record′ in
+      record {
+        less = omega (arith, r .least, r .next);
+        checking = record {
+          done = c .done ++ (x ∷ []);
+          many = omega (arith, length-append (c .done) (x ∷ []), c .many);
+          packs = packages-snoc (c .done) x ∙ rw (c .packs, r .packages);
+          few = omega (arith, r .least, r .next, c .few);
+          inside = omega (arith, r .next, r .most, length-drop i s);
+          doing = subst (λ (j : ℕ). Doing message s (c .done ++ (x ∷ [])) j) (sym (r .next)) (doing-next message s (c .done) i x (r .size) (c .doing) l (omega (arith, r .least)) (r .reads));
+        };
+      }
+
+  pub next : (d : MessageSpot) → i < length s → good d ≡ messageHere i (take (length s - i) (drop i s)) → Onward s i m n d
+  next d l e = behind-one d l (reading i (drop i s) d (sym (rw rest at e)))
+
+  module _ (a : length s ≤ 65536) where
+    pub stopped : {k q : ℕ} → i < length s → bad k q ≡ messageHere i (take (length s - i) (drop i s)) → bad k q ≡ counted s
+    unfolding counted recording
+    stopped l e = sym (stop _ _ (pass _ _ _ _ (le-ltb 65536 (length s) a) (doing-bad message s (c .done) i (c .doing) l (unread i (drop i s) (sym (rw rest at e))))))
+
+    pub ended : length s ≤ i → good (m, n) ≡ counted s
+    unfolding counted recording
+    ended l = sym (step _ _ (pass _ _ _ _ (le-ltb 65536 (length s) a) (doing-end message s (c .done) i (c .doing) l)) (rw (c .many, c .packs)))
+
+pub too-large : (s : List ℕ) → 65536 < length s → bad LARGE 65536 ≡ counted s
+unfolding counted recording
+too-large s a = sym (stop _ _ (halt _ _ _ _ (lt-ltb 65536 (length s) a)))

@@ -1,0 +1,99 @@
+-- Equal outcomes are equal answers: what a promise allows is one answer.
+use Prim.Native.Nat.{ℕ}
+use mathlib.Core.Path.{_≡_, refl, sym, ap, _∙_}
+use mathlib.Core.Option.{Option, none, some}
+use native.Mathlib.Omega.{arith}
+use Rattle.rules.specs.Outcome.{Outcome, good, bad}
+use Rattle.rules.specs.Message.{Head}
+use Rattle.rules.specs.Claims.{TellsApart}
+use Rattle.rules.proofs.Outcomes.{good-inj, good≢bad}
+use Rattle.refusal.proofs.Numbers.{refused-injective}
+use Rattle.message.specs.Answers.{headTold, toldHeader, packageTold, toldPackage, spotTold, toldMessage, toldCheck}
+use Rattle.rules.specs.Walk.{PackageSpot}
+use Rattle.rules.specs.Reading.{MessageSpot}
+use Rattle.message.specs.declared.Header.{Header}
+use Rattle.message.specs.declared.Package.{Package}
+use Rattle.message.specs.declared.Message.{Message}
+use Rattle.message.specs.declared.HeaderRead.{HeaderRead}
+use Rattle.message.specs.declared.HeaderRead.the-variants as headerRead
+use Rattle.message.specs.declared.PackageRead.{PackageRead}
+use Rattle.message.specs.declared.PackageRead.the-variants as packageRead
+use Rattle.message.specs.declared.MessageRead.{MessageRead}
+use Rattle.message.specs.declared.MessageRead.the-variants as messageRead
+use Rattle.message.specs.declared.Checked.{Checked}
+use Rattle.message.specs.declared.Checked.the-variants as checked
+
+headerBack : Head × ℕ → Header
+headerBack r = record {
+  words = r .0 .words;
+  flags = r .0 .flags;
+  id = record { 0 = r .0 .id };
+  sequence = r .0 .sequence;
+  length = r .0 .size;
+  seconds = r .0 .seconds;
+  nanos = r .0 .nanos;
+  run = r .1;
+}
+
+header-back : (h : Header) → headerBack (headTold h, h .run) ≡ h
+unfolding headerBack
+header-back h = refl
+
+pub same-header : TellsApart toldHeader
+same-header (headerRead.Header h) (headerRead.Header g) e =
+    let q : _≡_ {A = Head × ℕ} (headTold h, h .run) (headTold g, g .run) = good-inj e in
+    ap headerRead.Header (sym (header-back h) ∙ ap headerBack q ∙ header-back g)
+same-header (headerRead.Header h) (headerRead.Refused r) e = absurd (good≢bad (sym e))
+same-header (headerRead.Refused r) (headerRead.Header h) e = absurd (good≢bad e)
+same-header (headerRead.Refused r) (headerRead.Refused q) e = ap headerRead.Refused (refused-injective r q e)
+
+packageBack : PackageSpot → Package
+packageBack k = record { id = record { 0 = k .id }; length = k .size; status = k .status; delta = k .delta; from = k .from; to = k .to; next = k .next }
+
+package-back : (k : Package) → packageBack (packageTold k) ≡ k
+unfolding packageBack
+package-back k = refl
+
+some-inj : {A : Type 0} {a b : A} → some a ≡ some b → a ≡ b
+some-inj e = cc
+
+none≢some : {A : Type 0} {a : A} → _≡_ {A = Option A} none (some a) → ⊥
+none≢some e = let z : _≡_ {A = ℕ} 0 1 = cc in omega arith
+
+pub same-package : TellsApart toldPackage
+same-package (packageRead.Package k) (packageRead.Package l) e =
+    ap packageRead.Package (sym (package-back k) ∙ ap packageBack (some-inj (good-inj e)) ∙ package-back l)
+same-package (packageRead.Package k) packageRead.End e = absurd (none≢some (sym (good-inj e)))
+same-package packageRead.End (packageRead.Package k) e = absurd (none≢some (good-inj e))
+same-package packageRead.End packageRead.End e = refl
+same-package (packageRead.Package k) (packageRead.Refused r) e = absurd (good≢bad (sym e))
+same-package packageRead.End (packageRead.Refused r) e = absurd (good≢bad (sym e))
+same-package (packageRead.Refused r) (packageRead.Package k) e = absurd (good≢bad e)
+same-package (packageRead.Refused r) packageRead.End e = absurd (good≢bad e)
+same-package (packageRead.Refused r) (packageRead.Refused q) e = ap packageRead.Refused (refused-injective r q e)
+
+messageBack : MessageSpot → Message
+messageBack d = record { header = headerBack (d .head, d .run); payload = d .payload; next = d .next; packages = d .packages }
+
+message-back : (m : Message) → messageBack (spotTold m) ≡ m
+unfolding messageBack headerBack
+message-back m = refl
+
+pub same-message : TellsApart toldMessage
+same-message (messageRead.Message m) (messageRead.Message n) e =
+    ap messageRead.Message (sym (message-back m) ∙ ap messageBack (good-inj e) ∙ message-back n)
+same-message (messageRead.Message m) (messageRead.Refused r) e = absurd (good≢bad (sym e))
+same-message (messageRead.Refused r) (messageRead.Message m) e = absurd (good≢bad e)
+same-message (messageRead.Refused r) (messageRead.Refused q) e = ap messageRead.Refused (refused-injective r q e)
+
+passedOf : ℕ × ℕ → Checked
+passedOf r = checked.Passed (r .0) (r .1)
+
+pub same-check : TellsApart toldCheck
+unfolding passedOf
+same-check (checked.Passed m n) (checked.Passed k l) e =
+    let q : _≡_ {A = ℕ × ℕ} (m, n) (k, l) = good-inj e in
+    ap passedOf q
+same-check (checked.Passed m n) (checked.Refused r) e = absurd (good≢bad (sym e))
+same-check (checked.Refused r) (checked.Passed m n) e = absurd (good≢bad e)
+same-check (checked.Refused r) (checked.Refused q) e = ap checked.Refused (refused-injective r q e)

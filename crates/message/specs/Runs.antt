@@ -1,0 +1,19 @@
+-- A bare option run and a bare run of packages, as the writer takes them: places count in the run.
+use Prim.Native.Nat.{ℕ, zero}
+use mathlib.Core.List.{List}
+use Rattle.rules.specs.Outcome.{Outcome, _>>_}
+use Rattle.rules.specs.Options.{run}
+use Rattle.rules.specs.Message.{sizeable}
+use Rattle.message.specs.Answers.{cutCount}
+
+-- how long the run of a bare list of options is
+unfoldable pub optionsOf : List ℕ → Outcome ℕ
+optionsOf o = do
+  sizeable o
+  run zero zero zero o
+
+-- how many packages a bare run holds
+unfoldable pub cutOf : List ℕ → Outcome ℕ
+cutOf q = do
+  sizeable q
+  cutCount zero q

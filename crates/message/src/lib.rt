@@ -1,0 +1,546 @@
+// Chapter 24 read: headers, option runs, packages, messages, and a recording checked.
+use refusal::Refusal;
+use refusal::Why;
+ghost use mathlib.Core.Path.{_≡_};
+ghost use mathlib.Core.Bool.{true};
+ghost use Prim.Native.Nat.{_+_, _*_, _/_, _≤_, _<_};
+ghost use lib.ListN.{length};
+ghost use Rattle.rules.specs.Options as options;
+ghost use Rattle.rules.specs.Message as rule;
+ghost use Rattle.rules.specs.Packages as packages;
+ghost use Rattle.rules.specs.Reading as reading;
+ghost use Rattle.rules.specs.Walk as walks;
+ghost use Rattle.rules.specs.Packages.{packageTime};
+ghost use Rattle.message.specs.Answers as spec;
+ghost use Rattle.message.specs.Runs as runs;
+
+// A message id and a package id: one never stands in for the other.
+pub struct Mdid(pub u32);
+
+pub struct Pdid(pub u32);
+
+// The numbers of a header that passes checks 1 to 7; `flags` is bits 7 to 0, and `run` how long the option run is.
+pub struct Header {
+    pub words: u8,
+    pub flags: u8,
+    pub id: Mdid,
+    pub sequence: u32,
+    pub length: u32,
+    pub seconds: u32,
+    pub nanos: u32,
+    pub run: usize,
+}
+
+pub enum HeaderRead {
+    Header(Header),
+    Refused(Refusal),
+}
+
+// A package: its data are the run's bytes from `from` to `to`, and the next one begins at `next`.
+pub struct Package {
+    pub id: Pdid,
+    pub length: u16,
+    pub status: u8,
+    pub delta: u32,
+    pub from: usize,
+    pub to: usize,
+    pub next: usize,
+}
+
+pub enum PackageRead {
+    Package(Package),
+    End,
+    Refused(Refusal),
+}
+
+// A message: its payload is the recording's bytes from `payload` to `next`, where the next message begins.
+pub struct Message {
+    pub header: Header,
+    pub payload: usize,
+    pub next: usize,
+    pub packages: usize,
+}
+
+pub enum MessageRead {
+    Message(Message),
+    Refused(Refusal),
+}
+
+pub enum Checked {
+    Passed { messages: usize, packages: usize },
+    Refused(Refusal),
+}
+
+fn wide8(x: u8) -> usize
+    ensures { λ r. ⌜ (r ≡ x) × (r < 256) ⌝ }
+{
+    x as usize
+}
+
+fn wide16(x: u16) -> usize
+    ensures { λ r. ⌜ (r ≡ x) × (r < 65536) ⌝ }
+{
+    x as usize
+}
+
+fn wide32(x: u32) -> usize
+    ensures { λ r. ⌜ (r ≡ x) × (r < 4294967296) ⌝ }
+{
+    x as usize
+}
+
+// A header's numbers before any check.
+struct Raw {
+    version: u8,
+    words: u8,
+    kind: u8,
+    flags: u8,
+    id: u32,
+    sequence: u32,
+    size: u32,
+    seconds: u32,
+    nanos: u32,
+}
+
+fn raw_of(m: &[u8]) -> Raw
+    ensures { λ r. ⌜ spec.headOf r ≡ rule.head (now (m .entry)) ⌝ }
+{
+    let first = wire::byte_at(m, 0);
+    let second = wire::byte_at(m, 1);
+    let flags = wire::byte_at(m, 3);
+    let id = wire::word_at(m, 4);
+    let sequence = wire::word_at(m, 8);
+    let size = wire::word_at(m, 12);
+    let seconds = wire::word_at(m, 16);
+    let nanos = wire::word_at(m, 20);
+    Raw {
+        version: first / 16,
+        words: first % 16,
+        kind: second % 16,
+        flags,
+        id,
+        sequence,
+        size,
+        seconds,
+        nanos,
+    }
+}
+
+// Where the payload begins.
+fn front(words: u8) -> usize
+    ensures { λ r. ⌜ (r ≡ 24 + 4 * words) × (r < 2048) ⌝ }
+{
+    24 + 4 * wide8(words)
+}
+
+// Whether checks pass.
+enum Gate {
+    Open,
+    Shut(Refusal),
+}
+
+fn shut(why: Why, place: usize) -> Gate
+    ensures { λ r. ⌜ r ≡ Gate.Shut (record { why = why; place = place }) ⌝ }
+{
+    Gate::Shut(Refusal { why, place })
+}
+
+// Checks 1 to 6 of the message at the start of m, which stands at place p.
+fn judge(m: &[u8], h: Raw, p: usize) -> Gate
+    ensures { λ r. ⌜ spec.toldGate r ≡ rule.checked p (now (m .entry)) (spec.headOf h) ⌝ }
+{
+    if m.len() < 24 {
+        return shut(Why::Short, p);
+    }
+    if h.version != 1 {
+        return shut(Why::Version, p);
+    }
+    if h.kind != 0 {
+        return shut(Why::Kind, p);
+    }
+    let size = wide32(h.size);
+    if size < front(h.words) {
+        return shut(Why::Length, p);
+    }
+    if size % 4 != 0 {
+        return shut(Why::Length, p);
+    }
+    if m.len() < size {
+        return shut(Why::Cut, p);
+    }
+    if 999999999 < h.nanos {
+        return shut(Why::Time, p);
+    }
+    Gate::Open
+}
+
+// Whether an option of kind k, 0x80 or above, may have n bytes.
+fn sized(k: u8, n: u8) -> bool
+    ensures { λ r. ⌜ r ≡ options.sized k n ⌝ }
+{
+    if n < 2 {
+        return false;
+    }
+    if 60 < n {
+        return false;
+    }
+    if k < 0x82 {
+        return true;
+    }
+    if k <= 0x84 {
+        if n < 3 {
+            return false;
+        }
+        return n <= 32;
+    }
+    if k == 0x85 {
+        if n == 6 {
+            return true;
+        }
+        return n == 18;
+    }
+    if k <= 0x87 {
+        return n == 6;
+    }
+    true
+}
+
+// What stands at the start of option bytes: the end of the options, an option with its size, or none that keeps the rules.
+enum Opt {
+    Ends,
+    Takes(usize),
+    Bad,
+}
+
+fn option_here(o: &[u8]) -> Opt
+    ensures { λ r. ⌜ r ≡ spec.optionHere (now (o .entry)) ⌝ }
+{
+    let k = wire::byte_at(o, 0);
+    if k == 0 {
+        return Opt::Ends;
+    }
+    if k < 0x80 {
+        return Opt::Takes(1);
+    }
+    let n = wire::byte_at(o, 1);
+    if !sized(k, n) {
+        return Opt::Bad;
+    }
+    let size = wide8(n);
+    if o.len() < size {
+        return Opt::Bad;
+    }
+    Opt::Takes(size)
+}
+
+// A number, or a refusal.
+pub enum Count {
+    Number(usize),
+    Refused(Refusal),
+}
+
+// How long the option run of the option bytes o is, which stand at place p: check 7.
+fn run_of(o: &[u8], p: usize) -> Count
+    requires { ⌜ p + length (now o) < 4294967296 ⌝ }
+    ensures { λ r. ⌜ spec.toldCount r ≡ options.run 0 p 0 (now (o .entry)) ⌝ }
+{
+    let mut i = 0;
+    while i < o.len() {
+        match option_here(&o[i..]) {
+            Opt::Takes(n) => {
+                i += n;
+            }
+            Opt::Ends => {
+                return Count::Number(i);
+            }
+            Opt::Bad => {
+                return Count::Refused(Refusal {
+                    why: Why::Option,
+                    place: p + i,
+                });
+            }
+        }
+    }
+    Count::Number(i)
+}
+
+// Checks 1 to 7 of the message at the start of m, which stands at place p: how long its option run is.
+fn opened(m: &[u8], h: Raw, p: usize) -> Count
+    requires { ⌜ p + length (now m) < 4294967296 ⌝ }
+    ensures { λ r. ⌜ spec.toldCount r ≡ rule.runLength p (now (m .entry)) (spec.headOf h) ⌝ }
+{
+    match judge(m, h, p) {
+        Gate::Shut(r) => Count::Refused(r),
+        Gate::Open => {
+            let e = front(h.words);
+            run_of(&m[24..e], p + 24)
+        }
+    }
+}
+
+fn header_of(h: Raw, run: usize) -> Header
+    ensures { λ r. ⌜ r ≡ spec.headerOf h run ⌝ }
+{
+    Header {
+        words: h.words,
+        flags: h.flags,
+        id: Mdid(h.id),
+        sequence: h.sequence,
+        length: h.size,
+        seconds: h.seconds,
+        nanos: h.nanos,
+        run,
+    }
+}
+
+// The header of the message at the start of s.
+pub fn read_header(s: &[u8]) -> HeaderRead
+    ensures { λ r. ⌜ spec.toldHeader r ≡ reading.header (now (s .entry)) ⌝ }
+{
+    if 65536 < s.len() {
+        return HeaderRead::Refused(Refusal {
+            why: Why::Large,
+            place: 65536,
+        });
+    }
+    let h = raw_of(s);
+    match opened(s, h, 0) {
+        Count::Refused(r) => HeaderRead::Refused(r),
+        Count::Number(n) => HeaderRead::Header(header_of(h, n)),
+    }
+}
+
+// Its option run, as a part of s; empty where the header is refused.
+pub fn option_run(s: &[u8]) -> &[u8]
+    ensures { λ r. ⌜ (now r ≡ reading.optionRun (now (s .entry))) × spec.PartOf (s .entry) (reading.optionStart (now (s .entry))) r ⌝ }
+{
+    match read_header(s) {
+        HeaderRead::Refused(_) => &s[0..0],
+        HeaderRead::Header(h) => {
+            let e = 24 + h.run;
+            &s[24..e]
+        }
+    }
+}
+
+// How many bytes the package at the start of s takes with its padding, or that none that keeps the rules stands there.
+enum Piece {
+    Takes(usize),
+    Bad,
+}
+
+fn padded(n: usize) -> usize
+    requires { ⌜ n < 4294967296 ⌝ }
+    ensures { λ r. ⌜ r ≡ (n + 3) / 4 * 4 ⌝ }
+{
+    (n + 3) / 4 * 4
+}
+
+fn piece_here(s: &[u8]) -> Piece
+    ensures { λ r. ⌜ r ≡ spec.pieceHere (now (s .entry)) ⌝ }
+{
+    if s.len() < 12 {
+        return Piece::Bad;
+    }
+    let l = wide16(wire::half_at(s, 4));
+    if l < 12 {
+        return Piece::Bad;
+    }
+    let size = padded(l);
+    if s.len() < size {
+        return Piece::Bad;
+    }
+    Piece::Takes(size)
+}
+
+// The package at place `at` of a run.
+pub fn package_at(s: &[u8], at: usize) -> PackageRead
+    ensures { λ r. ⌜ spec.toldPackage r ≡ walks.packageAt (now (s .entry)) at ⌝ }
+{
+    if 65536 < s.len() {
+        return PackageRead::Refused(Refusal {
+            why: Why::Large,
+            place: 65536,
+        });
+    }
+    if s.len() <= at {
+        return PackageRead::End;
+    }
+    let c = &s[at..];
+    match piece_here(c) {
+        Piece::Bad => PackageRead::Refused(Refusal {
+            why: Why::Package,
+            place: at,
+        }),
+        Piece::Takes(n) => {
+            let id = Pdid(wire::word_at(c, 0));
+            let length = wire::half_at(c, 4);
+            let status = wire::byte_at(c, 7);
+            let delta = wire::word_at(c, 8);
+            let from = at + 12;
+            let to = at + wide16(length);
+            let next = at + n;
+            PackageRead::Package(Package {
+                id,
+                length,
+                status,
+                delta,
+                from,
+                to,
+                next,
+            })
+        }
+    }
+}
+
+// The time of a package in nanoseconds.
+pub fn package_time(seconds: u32, nanos: u32, delta: u32) -> u64
+    ensures { λ r. ⌜ r ≡ packageTime seconds nanos delta ⌝ }
+{
+    (seconds as u64) * 1000000000 + (nanos as u64) + (delta as u64)
+}
+
+// How many packages the payload q holds, which stands at place p: check 10.
+fn packages_of(q: &[u8], p: usize) -> Count
+    requires { ⌜ p + length (now q) < 4294967296 ⌝ }
+    ensures { λ r. ⌜ spec.toldCount r ≡ spec.cutCount p (now (q .entry)) ⌝ }
+{
+    let mut i = 0;
+    let mut n = 0;
+    while i < q.len() {
+        let Piece::Takes(k) = piece_here(&q[i..]) else {
+            return Count::Refused(Refusal {
+                why: Why::Package,
+                place: p + i,
+            });
+        };
+        i += k;
+        n += 1;
+    }
+    Count::Number(n)
+}
+
+// 1 where there are bytes between a and e, and 0 otherwise.
+fn some(a: usize, e: usize) -> u8
+    ensures { λ r. ⌜ r ≡ spec.between a e ⌝ }
+{
+    if a < e { 1 } else { 0 }
+}
+
+// Checks 8 to 10 of the message at the start of m, which stands at place p and has passed checks 1 to 7 with an option run of n bytes.
+fn framed(m: &[u8], h: Raw, p: usize, n: usize) -> MessageRead
+    requires { ⌜ spec.Opened (now m) (spec.headOf h) p ⌝ }
+    ensures { λ r. ⌜ spec.toldMessage r ≡ spec.framedSpot p (now (m .entry)) (spec.headOf h) n ⌝ }
+{
+    if h.flags / 16 % 4 != 0 {
+        return MessageRead::Refused(Refusal {
+            why: Why::Fragment,
+            place: p,
+        });
+    }
+    let a = front(h.words);
+    let e = wide32(h.size);
+    if h.flags / 128 % 2 != some(a, e) {
+        return MessageRead::Refused(Refusal {
+            why: Why::Standard,
+            place: p,
+        });
+    }
+    match packages_of(&m[a..e], p + a) {
+        Count::Refused(r) => MessageRead::Refused(r),
+        Count::Number(k) => {
+            let header = header_of(h, n);
+            MessageRead::Message(Message {
+                header,
+                payload: p + a,
+                next: p + e,
+                packages: k,
+            })
+        }
+    }
+}
+
+// Checks 1 to 10 of the message at the start of m, which stands at place p.
+fn message_here(m: &[u8], p: usize) -> MessageRead
+    requires { ⌜ p + length (now m) < 4294967296 ⌝ }
+    ensures { λ r. ⌜ spec.toldMessage r ≡ spec.messageHere p (now (m .entry)) ⌝ }
+{
+    let h = raw_of(m);
+    match opened(m, h, p) {
+        Count::Refused(r) => MessageRead::Refused(r),
+        Count::Number(n) => framed(m, h, p, n),
+    }
+}
+
+// The message at place `at` of a recording.
+pub fn message_at(s: &[u8], at: usize) -> MessageRead
+    ensures { λ r. ⌜ spec.toldMessage r ≡ reading.messageAt (now (s .entry)) at ⌝ }
+{
+    if 65536 < s.len() {
+        return MessageRead::Refused(Refusal {
+            why: Why::Large,
+            place: 65536,
+        });
+    }
+    if s.len() < at {
+        return MessageRead::Refused(Refusal {
+            why: Why::Short,
+            place: at,
+        });
+    }
+    message_here(&s[at..], at)
+}
+
+// How many messages and packages a recording has.
+pub fn check(s: &[u8]) -> Checked
+    ensures { λ r. ⌜ spec.toldCheck r ≡ reading.counted (now (s .entry)) ⌝ }
+{
+    if 65536 < s.len() {
+        return Checked::Refused(Refusal {
+            why: Why::Large,
+            place: 65536,
+        });
+    }
+    let mut i = 0;
+    let mut messages = 0;
+    let mut packages = 0;
+    while i < s.len() {
+        match message_here(&s[i..], i) {
+            MessageRead::Message(m) => {
+                i = m.next;
+                messages += 1;
+                packages += m.packages;
+            }
+            MessageRead::Refused(r) => {
+                return Checked::Refused(r);
+            }
+        }
+    }
+    Checked::Passed { messages, packages }
+}
+
+// How long the run of a bare list of options is: LARGE, then check 7 with places in the list.
+pub fn options_of(o: &[u8]) -> Count
+    ensures { λ r. ⌜ spec.toldCount r ≡ runs.optionsOf (now (o .entry)) ⌝ }
+{
+    if 65536 < o.len() {
+        return Count::Refused(Refusal {
+            why: Why::Large,
+            place: 65536,
+        });
+    }
+    run_of(o, 0)
+}
+
+// How many packages a bare run holds: LARGE, then check 10 with places in the run.
+pub fn cut_of(q: &[u8]) -> Count
+    ensures { λ r. ⌜ spec.toldCount r ≡ runs.cutOf (now (q .entry)) ⌝ }
+{
+    if 65536 < q.len() {
+        return Count::Refused(Refusal {
+            why: Why::Large,
+            place: 65536,
+        });
+    }
+    packages_of(q, 0)
+}
