@@ -1,0 +1,89 @@
+-- A whole message by stores, and what the writer and the cleaner answer.
+use Prim.Native.Nat.{ℕ, _+_, _-_, _*_, _/_, _%_, _≤_, _<_}
+use mathlib.Core.Path.{_≡_, refl, sym, ap, _∙_}
+use mathlib.Core.List.{List, [], _∷_, _++_}
+use native.Mathlib.Nat.{zero-add}
+use native.Mathlib.Omega.{arith}
+use lib.ListN.{length, take, drop, length-append}
+use lib.Seq.{sets}
+use borrow.Rule.Slice.PartMut.{putMid}
+use Rattle.rules.specs.Outcome.{_>>=_, _>>_}
+use Rattle.rules.specs.Bytes.{put32, pad, padded, part, any}
+use Rattle.rules.specs.Packages.{cut, packageOf, pieceOf, Fills, none, more}
+use Rattle.rules.specs.Writer.{write, Draft, drafted, written, writer}
+use Rattle.rules.specs.Buffer.{stored}
+use Rattle.rules.specs.Clean.{cleaner}
+use Rattle.rules.proofs.Cut as Cut
+use Rattle.rules.proofs.Pieces.{length-padded}
+use Rattle.rules.proofs.Cleaned.{any-filled}
+use Rattle.rules.proofs.Loops.{sets-sets}
+use Rattle.compose.specs.Payload.{Cuts, rendered, payloadOf, headerOf, messageOf, sizeOf}
+use Rattle.compose.proofs.Stores.{sets-part}
+use Rattle.compose.proofs.Run.{piece-length}
+
+-- the pieces written again are as long as the run
+pub rendered-length : {cs : List (List ℕ)} {s : List ℕ} → Fills cs s → length (rendered cs) ≡ length s
+rendered-length none = refl
+rendered-length (more {c = c} {cs = cs} {s = s} h r) =
+    omega (arith, length-append (pieceOf (packageOf c)) (rendered cs), length-append c s, piece-length c h, rendered-length r)
+
+-- 0 for no bytes, 1 for some
+pub any-none : (s : List ℕ) → length s ≡ 0 → any s ≡ 0
+any-none [] l = refl
+any-none (x ∷ s) l = absurd (omega arith)
+
+pub any-some : (s : List ℕ) → 0 < length s → any s ≡ 1
+any-some [] l = absurd (omega arith)
+any-some (x ∷ s) l = refl
+
+-- the header's six words
+first-bytes : (w f : ℕ) (t : List ℕ) → w ≤ 15 → f < 256 → put32 ((16 + w) * 16777216 + f) t ≡ (16 + w) ∷ 0 ∷ 0 ∷ f ∷ t
+first-bytes w f t h l =
+    let a : ((16 + w) * 16777216 + f) / 16777216 % 256 ≡ 16 + w = omega arith in
+    let b : ((16 + w) * 16777216 + f) / 65536 % 256 ≡ 0 = let e : ((16 + w) * 16777216 + f) / 65536 ≡ (16 + w) * 256 = omega arith in omega arith in
+    let c : ((16 + w) * 16777216 + f) / 256 % 256 ≡ 0 = let e : ((16 + w) * 16777216 + f) / 256 ≡ (16 + w) * 65536 = omega arith in omega arith in
+    let d : ((16 + w) * 16777216 + f) % 256 ≡ f = omega arith in
+    rw (a, b, c, d)
+
+pub header-stored : (b : List ℕ) (w f i q z s n : ℕ) {b₁ b₂ b₃ b₄ b₅ b₆ : List ℕ} {v z′ : ℕ} → w ≤ 15 → f < 256 → v ≡ (16 + w) * 16777216 + f → z′ ≡ z
+    → b₁ ≡ sets b 0 (put32 v []) → b₂ ≡ sets b₁ 4 (put32 i []) → b₃ ≡ sets b₂ 8 (put32 q []) → b₄ ≡ sets b₃ 12 (put32 z′ [])
+    → b₅ ≡ sets b₄ 16 (put32 s []) → b₆ ≡ sets b₅ 20 (put32 n []) → b₆ ≡ sets b 0 (headerOf w f i q z s n)
+header-stored b w f i q z s n {b₁ = b₁} h l e k a₁ a₂ a₃ a₄ a₅ a₆ =
+    let a : b₁ ≡ sets b 0 ((16 + w) ∷ 0 ∷ 0 ∷ f ∷ []) = a₁ ∙ ap (λ (x : ℕ). sets b 0 (put32 x [])) e ∙ ap (sets b 0) (first-bytes w f [] h l) in
+    a₆ ∙ rw (a₅, a₄, a₃, a₂, a, k)
+
+-- flag 7, the kept flags, and the option words of a draft
+abbrev pub flagsOf : Draft → ℕ
+flagsOf d = d .flags / 64 % 2 * 64 + d .flags % 16 + any (d .packages) * 128
+
+abbrev pub wordsOf : Draft → ℕ
+wordsOf d = pad (length (d .options)) / 4
+
+glued : (h o q b : List ℕ) (z : ℕ) → length h ≡ 24 → length o ≡ z → sets (sets (sets b 0 h) 24 o) (24 + z) q ≡ sets b 0 (h ++ (o ++ q))
+glued h o q b z l e =
+    sym (ap (λ (n : ℕ). sets (sets (sets b 0 h) 24 o) (24 + n) q) e) ∙ sets-sets o q (sets b 0 h) 24
+    ∙ sym (ap (λ (n : ℕ). sets (sets b 0 h) n (o ++ q)) l) ∙ ap (λ (n : ℕ). sets (sets b 0 h) n (o ++ q)) (sym (zero-add (length h))) ∙ sets-sets h (o ++ q) b 0
+
+-- header, options and packages, stored one behind the other
+pub message-stored : (d : Draft) (b : List ℕ) → Cuts (d .packages)
+    → sets (sets (sets b 0 (headerOf (wordsOf d) (flagsOf d) (d .id) (d .sequence) (sizeOf d) (d .seconds) (d .nanos))) 24 (padded (d .options))) (24 + pad (length (d .options))) (payloadOf (cut 0 (d .packages)))
+    ≡ sets b 0 (messageOf d (cut 0 (d .packages)))
+unfolding payloadOf messageOf write drafted
+message-stored d b w =
+    let f : Fills (w .pieces) (d .packages) = Cut.sound 0 0 (d .packages) (w .cuts) in
+    glued (headerOf (wordsOf d) (flagsOf d) (d .id) (d .sequence) (sizeOf d) (d .seconds) (d .nanos)) (padded (d .options)) (payloadOf (cut 0 (d .packages))) b (pad (length (d .options))) refl (length-padded (d .options))
+    ∙ rw (w .cuts, any-filled f, rendered-length f, length-padded (d .options))
+
+pub message-length : (d : Draft) → Cuts (d .packages) → length (messageOf d (cut 0 (d .packages))) ≡ sizeOf d
+unfolding messageOf write drafted
+message-length d w =
+    let f : Fills (w .pieces) (d .packages) = Cut.sound 0 0 (d .packages) (w .cuts) in
+    rw (w .cuts) (omega (arith, length-append (padded (d .options)) (rendered (w .pieces)), length-padded (d .options), rendered-length f))
+
+-- the same where the packages are stored in a part that is lent
+pub whole-stored : (d : Draft) (b : List ℕ) {b₁ b₂ ys : List ℕ} {n f : ℕ} → Cuts (d .packages) → n ≡ pad (length (d .options)) → f ≡ flagsOf d
+    → b₁ ≡ sets b 0 (headerOf (n / 4) f (d .id) (d .sequence) (24 + n + length (d .packages)) (d .seconds) (d .nanos)) → b₂ ≡ sets b₁ 24 (padded (d .options))
+    → ys ≡ sets (take (length b₂ - (24 + n)) (drop (24 + n) b₂)) 0 (payloadOf (cut 0 (d .packages)))
+    → putMid (24 + n) (length b₂ - (24 + n)) b₂ ys ≡ sets b 0 (messageOf d (cut 0 (d .packages)))
+whole-stored d b {b₂ = b₂} {ys = ys} {n = n} w e f g h i =
+    sets-part b₂ ys (payloadOf (cut 0 (d .packages))) (24 + n) i ∙ rw (h, g, f, e) (message-stored d b w)

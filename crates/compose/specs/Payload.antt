@@ -1,0 +1,68 @@
+-- What is stored: a run of packages, cut and written; and the message of a draft.
+use Prim.Native.Nat.{ℕ, zero, _+_, _≤_}
+use mathlib.Core.Path.{_≡_}
+use mathlib.Core.List.{List, [], _∷_, map}
+use lib.ListN.{length, drop}
+use lib.Seq.{sets}
+use Rattle.rules.specs.Outcome.{Outcome, good, bad}
+use Rattle.rules.specs.Bytes.{at, half, word, put16, put32, pad, part, join}
+use Rattle.rules.specs.Packages.{cut, packageOf, pieceOf}
+use Rattle.rules.specs.Writer.{write, Draft, drafted}
+use Rattle.rules.specs.Buffer.{Written, stored, fitted}
+
+-- the run is cut into pieces
+pub record Cuts (s : List ℕ) : Type 0 where
+  pub pieces : List (List ℕ)
+  pub cuts : cut zero s ≡ good pieces
+
+-- the packages of these pieces, written one behind the other
+abbrev pub rendered : List (List ℕ) → List ℕ
+rendered cs = join (map pieceOf (map packageOf cs))
+
+-- the packages of a run that is cut so, written
+unfoldable pub payloadOf : Outcome (List (List ℕ)) → List ℕ
+payloadOf (good cs) = rendered cs
+payloadOf (bad n p) = []
+
+-- the 12 bytes of the header of a piece's package with n bytes of data
+abbrev pub frontOf : List ℕ → ℕ → List ℕ
+frontOf c n = put32 (word c 0) (put16 (12 + n) (0 ∷ at c 7 ∷ put32 (word c 8) []))
+
+-- the package at index i of a run is stored at index i of a buffer, and the next one begins at index e
+pub record Moved (buffer run : List ℕ) (i : ℕ) (after : List ℕ) (e : ℕ) : Type 0 where
+  pub end : i + pad (half (drop i run) 4) ≡ e
+  pub bytes : after ≡ sets buffer i (pieceOf (packageOf (part i e run)))
+
+-- the 24 bytes of a header: words, flags, id, sequence, size, seconds, nanos
+abbrev pub headerOf : ℕ → ℕ → ℕ → ℕ → ℕ → ℕ → ℕ → List ℕ
+headerOf w f i q z s n = (16 + w) ∷ 0 ∷ 0 ∷ f ∷ put32 i (put32 q (put32 z (put32 s (put32 n []))))
+
+-- the message of a draft whose run is cut so
+unfoldable pub messageOf : Draft → Outcome (List (List ℕ)) → List ℕ
+messageOf d (good cs) = write (drafted d cs)
+messageOf d (bad n p) = []
+
+-- how many bytes it has
+abbrev pub sizeOf : Draft → ℕ
+sizeOf d = 24 + pad (length (d .options)) + length (d .packages)
+
+-- a draft whose message has n bytes: nothing but ROOM can be refused any more
+pub record Fit (d : Draft) (n : ℕ) : Type 0 where
+  pub short : length (d .options) ≤ 60
+  pub size : sizeOf d ≡ n
+  pub small : n ≤ 65536
+  pub cuts : Cuts (d .packages)
+
+-- and there is room for it
+pub record Ready (d : Draft) (buffer : List ℕ) : Type 0 where
+  pub fit : Fit d (sizeOf d)
+  pub room : sizeOf d ≤ length buffer
+
+-- the answer then
+unfoldable pub finished : Draft → List ℕ → Written × List ℕ
+finished d buffer = stored buffer (fitted buffer (messageOf d (cut zero (d .packages))))
+
+-- how many bytes an outcome has
+unfoldable pub sized : Outcome (List ℕ) → Outcome ℕ
+sized (good s) = good (length s)
+sized (bad n p) = bad n p
