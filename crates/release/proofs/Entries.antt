@@ -1,0 +1,244 @@
+-- Messages: how the released list and the copy grow, and what the two loops over a recording keep.
+use Prim.Native.Nat.{ℕ, suc, _+_, _-_, _*_, _/_, _%_, _≤_, _<_}
+use mathlib.Core.Path.{_≡_, refl, sym, ap, ap₂, _∙_}
+use mathlib.Core.Logic.{⊎-elim}
+use mathlib.Core.Bool.{Bool, true, false, _||_}
+use mathlib.Core.List.{List, [], _∷_, _++_, map, append-nil}
+use native.Mathlib.Nat.{add-zero, zero-add}
+use native.Mathlib.Numerals.{add-one}
+use native.Mathlib.Omega.{arith}
+use lib.Dec.{eqb}
+use lib.ListN.{length, getD, take, drop, length-append, length-drop}
+use lib.Seq.{take-suc, drop-drop, length-take-le}
+use borrow.Author.Tests.{eq-eqb, ne-eqb, le-ltb}
+use Rattle.rules.specs.Outcome.{good, bad}
+use Rattle.rules.specs.Bytes.{part}
+use Rattle.rules.specs.Packages as rules
+use Rattle.rules.specs.Packages.{cut, packageOf, pieceOf, packageTime}
+use Rattle.rules.specs.Message as messages
+use Rattle.rules.specs.Message.{head, front, parsed, recordOf, message}
+use Rattle.rules.specs.Writer.{write}
+use Rattle.rules.specs.Sheet as rows
+use Rattle.rules.specs.Copy.{granted, Entry, granteds, enter, released, count, stamp, rendered, packagesIn}
+use Rattle.rules.proofs.Outcomes.{pass, step, stop, passed, stepped, good-inj, good≢bad, refused-step}
+use Rattle.rules.proofs.Cut as Cut
+use Rattle.rules.proofs.Passed.{Passed, passes}
+use Rattle.rules.specs.Copy.{idOf}
+use Rattle.rules.proofs.Growing.{released-snoc, rendered-snoc}
+use Rattle.rules.proofs.Loops.{Doing, doing-next}
+use Rattle.refusal.specs.declared.Refusal.{Refusal}
+use Rattle.refusal.specs.Numbers.{numberOf}
+use Rattle.message.specs.declared.Header.{Header}
+use Rattle.message.specs.declared.Message.{Message}
+use Rattle.message.specs.declared.MessageRead.the-variants as M
+use Rattle.message.specs.Answers.{messageHere, toldMessage}
+use Rattle.rules.specs.Reading.{MessageSpot, messageSpot, messageAt}
+use Rattle.release.specs.declared.Size.{Size}
+use Rattle.release.specs.Parts.{who, kept, payloadOf, withEntry, headBytes, entryBytes}
+use Rattle.release.specs.Told.{totals}
+
+-- ---- counting ids
+
+count-append : (x : ℕ) (l m : List ℕ) → count x (l ++ m) ≡ count x l + count x m
+unfolding count
+count-append x [] m = sym (zero-add (count x m))
+count-append x (y ∷ l) m = go (eqb x y) (count-append x l m)
+  where
+    go : (b : Bool) → count x (l ++ m) ≡ count x l + count x m
+        → elim b [ true ↦ suc (count x (l ++ m)) | false ↦ count x (l ++ m) ] ≡ elim b [ true ↦ suc (count x l) | false ↦ count x l ] + count x m
+    go true e = omega arith
+    go false e = e
+
+count-same : (x : ℕ) → count x (x ∷ []) ≡ 1
+unfolding count
+count-same x = rw (eq-eqb x x refl, count)
+
+count-other : (x y : ℕ) → (y ≡ x → ⊥) → count x (y ∷ []) ≡ 0
+unfolding count
+count-other x y h = rw (ne-eqb x y (λ q. h (sym q)), count)
+
+module _ (x : ℕ) (ids : List ℕ) (i n : ℕ) (l : i < length ids) (so-far : n ≡ count x (take i ids)) where
+  pub count-hit : getD ids i 0 ≡ x → n + 1 ≡ count x (take (i + 1) ids)
+  count-hit e = rw (add-one i, take-suc ids i 0 l, count-append, e, count-same, so-far)
+
+  pub count-miss : (getD ids i 0 ≡ x → ⊥) → n ≡ count x (take (i + 1) ids)
+  count-miss e = rw (add-one i, take-suc ids i 0 l, count-append, count-other x (getD ids i 0) e, add-zero, so-far)
+
+-- ---- a message that was read
+
+pub record Met (tape : List ℕ) (k : ℕ) (m : Message) : Type 0 where
+  pub r : ℕ × List (List ℕ)
+  pub read : parsed k (drop k tape) (head (drop k tape)) ≡ good r
+  pub flags : head (drop k tape) .flags ≡ m .header .flags
+  pub id : head (drop k tape) .id ≡ m .header .id .0
+  pub seconds : head (drop k tape) .seconds ≡ m .header .seconds
+  pub nanos : head (drop k tape) .nanos ≡ m .header .nanos
+  pub payload : k + front (head (drop k tape)) ≡ m .payload
+  pub next : k + head (drop k tape) .size ≡ m .next
+
+module _ (tape : List ℕ) (k : ℕ) where
+  pub met : (m : Message) → toldMessage (M.Message m) ≡ messageAt tape k → Met tape k m
+  unfolding messageAt messageHere messageSpot
+  met m e =
+      let (large, g) = passed _ _ _ _ (sym e) in
+      let (r, q, f) = stepped _ _ g in
+      let s = good-inj f in
+      record {
+        r = r;
+        read = q;
+        flags = ap (λ (x : MessageSpot). x .head .flags) s;
+        id = ap (λ (x : MessageSpot). x .head .id) s;
+        seconds = ap (λ (x : MessageSpot). x .head .seconds) s;
+        nanos = ap (λ (x : MessageSpot). x .head .nanos) s;
+        payload = ap (λ (x : MessageSpot). x .payload) s;
+        next = ap (λ (x : MessageSpot). x .next) s;
+      }
+
+  -- a message that is refused
+  pub no-message : length tape ≤ 65536 → (f : Refusal) → toldMessage (M.Refused f) ≡ messageAt tape k → message k (drop k tape) ≡ bad (numberOf (f .why)) (f .place)
+  unfolding messageAt messageHere message
+  no-message l f e =
+      let q = sym (pass _ _ _ _ (le-ltb 65536 (length tape) l) refl) ∙ sym e in
+      ⊎-elim (λ b. stop _ _ b) (λ w. absurd (good≢bad (sym (w .2)))) (refused-step _ _ q)
+
+-- what a grant depends on
+module _ (m m′ : messages.Message) (i : m .id ≡ m′ .id) (s : m .seconds ≡ m′ .seconds) (n : m .nanos ≡ m′ .nanos) where
+  granted-same : (rs : List rows.Row) (p : rules.Package) → granted rs m p ≡ granted rs m′ p
+  unfolding granted
+  granted-same [] p = refl
+  granted-same (r ∷ rs) p =
+      let e : rows.grants (m .id) (p .id) (packageTime (m .seconds) (m .nanos) (p .delta)) r ≡ rows.grants (m′ .id) (p .id) (packageTime (m′ .seconds) (m′ .nanos) (p .delta)) r = rw (i, s, n) in
+      ap₂ (λ (a b : Bool). a || b) e (granted-same rs p)
+
+  granteds-same : (rs : List rows.Row) (ps : List rules.Package) → granteds rs m ps ≡ granteds rs m′ ps
+  unfolding granteds
+  granteds-same rs [] = refl
+  granteds-same rs (p ∷ ps) = ap₂ (λ (b : Bool) (l : List rules.Package). elim b [ true ↦ p ∷ l | false ↦ l ]) (granted-same rs p) (granteds-same rs ps)
+
+flag-bits : (f : ℕ) → (f / 64 % 2 * 64 + f % 16) / 2 % 8 * 2 ≡ f / 2 % 8 * 2
+flag-bits f =
+    let a : (f / 64 % 2 * 64 + f % 16) / 2 ≡ f / 64 % 2 * 32 + f % 16 / 2 = omega arith in
+    let b : f % 16 / 2 ≡ f / 2 % 8 = omega arith in
+    let c : (f / 64 % 2 * 32 + f / 2 % 8) % 8 ≡ f / 2 % 8 = omega arith in
+    rw (a, b, c)
+
+module _ (tape : List ℕ) (k : ℕ) (m : Message) (f : Met tape k m) where
+  abbrev t : List ℕ
+  t = drop k tape
+
+  abbrev run : List ℕ
+  run = take (m .next - m .payload) (drop (m .payload) tape)
+
+  -- the record of the message
+  abbrev pub it : messages.Message
+  it = recordOf t (head t) (f .r)
+
+  pub it-passes : Passed k t (head t) (f .r)
+  it-passes = passes k t (head t) (f .r) (f .read)
+
+  pub it-is : message k t ≡ good (it, head t .size)
+  unfolding message
+  it-is = step _ _ (f .read) refl
+
+  pub order : m .payload ≤ m .next
+  order = omega (arith, f .payload, f .next, it-passes .header .least)
+
+  pub inside : m .next ≤ length tape
+  inside = omega (arith, f .next, it-passes .header .most, it-passes .header .long, length-drop k tape)
+
+  pub behind : k + 24 ≤ m .payload
+  behind = omega (arith, f .payload)
+
+  pub run-length : length run ≡ m .next - m .payload
+  run-length = length-take-le (m .next - m .payload) (drop (m .payload) tape) (omega (arith, inside, length-drop (m .payload) tape))
+
+  run-is : run ≡ part (front (head t)) (head t .size) t
+  run-is =
+      let e : m .next - m .payload ≡ head t .size - front (head t) = omega (arith, f .payload, f .next) in
+      rw (e, ← f .payload, drop-drop)
+
+  pub cut-is : cut 0 run ≡ good (f .r .1)
+  cut-is = rw run-is (Cut.complete (Cut.sound 0 (k + front (head t)) (part (front (head t)) (head t .size) t) (it-passes .packages)) 0)
+
+  module _ (rs : List rows.Row) where
+    -- its granted packages
+    abbrev pub ps : List rules.Package
+    ps = kept rs (who (m .header)) (f .r .1)
+
+    granted-are : granteds rs it (it .packages) ≡ ps
+    unfolding kept recordOf
+    granted-are = granteds-same it (who (m .header)) (f .id) (f .seconds) (f .nanos) rs (map packageOf (f .r .1))
+
+    pub grown : (done : List messages.Message) → released rs (done ++ (it ∷ [])) ≡ released rs done ++ enter it ps []
+    grown done = rw (released-snoc rs done it, granted-are)
+
+    -- the bytes that it adds
+    flags-are : it .flags / 2 % 8 * 2 ≡ m .header .flags / 2 % 8 * 2
+    unfolding recordOf
+    flags-are = rw (f .flags) (flag-bits (m .header .flags))
+
+    written : (n : ℕ) (p : rules.Package) (qs : List rules.Package)
+        → write (stamp n (record { id = it .id; seconds = it .seconds; nanos = it .nanos; flags = it .flags / 2 % 8 * 2; packages = p ∷ qs }))
+        ≡ headBytes (m .header) n (24 + length (payloadOf (p ∷ qs))) ++ payloadOf (p ∷ qs)
+    unfolding write stamp headBytes recordOf
+    written n p qs =
+        let e : 64 + it .flags / 2 % 8 * 2 + 128 ≡ 192 + m .header .flags / 2 % 8 * 2 = omega (arith, flags-are) in
+        rw (e, f .id, f .seconds, f .nanos)
+
+    pub id-is : it .id ≡ m .header .id .0
+    unfolding recordOf
+    id-is = f .id
+
+    pub rendered-grown : (es : List Entry) (qs : List rules.Package) → rendered (es ++ enter it qs []) ≡ rendered es ++ entryBytes (m .header) (map idOf es) qs
+    unfolding enter entryBytes
+    rendered-grown es [] = rw append-nil (sym (append-nil (rendered es)))
+    rendered-grown es (p ∷ qs) = rendered-snoc es _ ∙ ap (λ (s : List ℕ). rendered es ++ s) (written (count (it .id) (map idOf es)) p qs ∙ rw id-is)
+
+-- a message of the copy has its header, and one package at least
+pub entry-length : (h : Header) (seen : List ℕ) (p : rules.Package) (qs : List rules.Package) → length (entryBytes h seen (p ∷ qs)) ≡ 24 + length (payloadOf (p ∷ qs))
+unfolding entryBytes headBytes
+entry-length h seen p qs = omega arith
+
+pub payload-least : (p : rules.Package) (qs : List rules.Package) → 12 ≤ length (payloadOf (p ∷ qs))
+unfolding pieceOf
+payload-least p qs = omega arith
+
+packages-snoc : (es : List Entry) (e : Entry) → packagesIn (es ++ (e ∷ [])) ≡ packagesIn es + length (e .packages)
+unfolding packagesIn
+packages-snoc [] e = omega arith
+packages-snoc (d ∷ es) e = omega (arith, packages-snoc es e)
+
+module _ (tape : List ℕ) (k : ℕ) (m : Message) (f : Met tape k m) (rs : List rows.Row) where
+  -- the totals with what it adds
+  pub totals-grown : (es : List Entry) (qs : List rules.Package) (s : Size) → s .bytes ≡ length (payloadOf qs) → s .packages ≡ length qs
+      → withEntry (totals es) s ≡ totals (es ++ enter (it tape k m f) qs [])
+  unfolding enter
+  totals-grown es [] s b p = rw (eq-eqb (s .packages) 0 p, append-nil)
+  totals-grown es (q ∷ qs) s b p =
+      let n : (s .packages ≡ 0 → ⊥) = λ z. omega arith in
+      let e : length (rendered es) + 24 + s .bytes ≡ length (rendered (es ++ enter (it tape k m f) (q ∷ qs) [])) =
+      rw (rendered-grown tape k m f rs es (q ∷ qs))
+      (omega (arith, length-append (rendered es) (entryBytes (m .header) (map idOf es) (q ∷ qs)), entry-length (m .header) (map idOf es) q qs)) in
+      rw (ne-eqb (s .packages) 0 n, e, packages-snoc, p, length-append)
+
+-- one message more
+module _ (tape : List ℕ) (done : List messages.Message) (k : ℕ) (doing : Doing message tape done k) (l : k < length tape) (m : Message) (f : Met tape k m) where
+  pub one-more : Doing message tape (done ++ (it tape k m f ∷ [])) (m .next)
+  one-more = rw (← f .next) (doing-next message tape done k (it tape k m f) (head (drop k tape) .size) doing l (omega (arith, it-passes tape k m f .header .least)) (it-is tape k m f))
+
+-- its places are in order
+pub record Spots (tape : List ℕ) (k : ℕ) (m : Message) : Type 0 where
+  pub on : k < m .next
+  pub forth : m .payload ≤ m .next
+  pub within : m .next ≤ length tape
+  pub small : length (take (m .next - m .payload) (drop (m .payload) tape)) ≤ 65536
+
+pub spots : (tape : List ℕ) → length tape ≤ 65536 → (k : ℕ) (m : Message) → toldMessage (M.Message m) ≡ messageAt tape k → Spots tape k m
+spots tape l k m e =
+    let g = met tape k m e in
+    record {
+      on = omega (arith, order tape k m g, behind tape k m g);
+      forth = order tape k m g;
+      within = inside tape k m g;
+      small = omega (arith, run-length tape k m g, inside tape k m g);
+    }

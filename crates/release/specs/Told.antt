@@ -1,0 +1,42 @@
+-- What measuring, writing and the copy tell.
+use Prim.Native.Nat.{ℕ}
+use mathlib.Core.Path.{_≡_}
+use mathlib.Core.List.{List}
+use lib.ListN.{length}
+use lib.Seq.{sets}
+use Rattle.rules.specs.Outcome.{Outcome, good, _>>=_}
+use Rattle.rules.specs.Message.{Message, recording}
+use Rattle.rules.specs.Sheet as rows
+use Rattle.rules.specs.Copy.{Entry, released, rendered, packagesIn, Answer}
+use Rattle.refusal.specs.Numbers.{numberOf, refused}
+use Rattle.release.specs.declared.Totals.{Totals}
+use Rattle.release.specs.declared.Measured.{Measured}
+use Rattle.release.specs.declared.Measured.the-variants as Measure
+use Rattle.release.specs.declared.Copied.{Copied}
+use Rattle.release.specs.declared.Copied.the-variants as Copy
+
+-- what the copy of a released list takes
+abbrev pub totals : List Entry → Totals
+totals es = record { bytes = length (rendered es); messages = length es; packages = packagesIn es }
+
+unfoldable pub measured : List rows.Row → List ℕ → Outcome Totals
+measured rs tape = do
+  ms ← recording tape
+  good (totals (released rs ms))
+
+abbrev pub toldMeasure : Measured → Outcome Totals
+toldMeasure (Measure.Fits t) = good t
+toldMeasure (Measure.Refused f) = refused f
+
+-- the buffer after, of a recording that passes
+pub record Wrote (rs : List rows.Row) (tape before after : List ℕ) : Type 0 where
+  pub right : (ms : List Message) → recording tape ≡ good ms → after ≡ sets before 0 (rendered (released rs ms))
+
+-- an answer's numbers
+abbrev pub numbers : Copied → Answer
+numbers (Copy.Written t) = record { number = 0; place = 0; bytes = t .bytes; messages = t .messages; packages = t .packages }
+numbers (Copy.Refused f) = record { number = numberOf (f .why); place = f .place; bytes = 0; messages = 0; packages = 0 }
+
+-- with the buffer after it
+abbrev pub told : Copied → List ℕ → Answer × List ℕ
+told a s = (numbers a, s)

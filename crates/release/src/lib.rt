@@ -1,0 +1,339 @@
+// The copy: what a recording releases under an order sheet. One pass measures and finds every refusal; the second writes.
+ghost use mathlib.Core.Path.{_≡_};
+ghost use Prim.Native.Nat.{_-_, _≤_};
+ghost use lib.ListN.{length, take};
+ghost use lib.Seq.{sets};
+ghost use Rattle.rules.specs.Packages.{packageTime};
+ghost use Rattle.rules.specs.Copy.{count, copy};
+ghost use Rattle.sheet.specs.Rows.{someGrants};
+ghost use Rattle.release.specs.Parts.{sheetOf, who, Sized, withPackage, withEntry, Placed, pieceAs, Stored, StoredRun, headBytes, StoredEntry};
+ghost use Rattle.release.specs.Told.{toldMeasure, measured, Wrote, told};
+use message::Header;
+use message::MessageRead;
+use message::Package;
+use message::PackageRead;
+use message::message_at;
+use message::package_at;
+use refusal::Refusal;
+use refusal::Why;
+use sheet::Row;
+use sheet::SheetAnswer;
+use sheet::in_sheet;
+use sheet::read_sheet;
+use wire::put_byte;
+use wire::put_half;
+use wire::put_part;
+use wire::put_word;
+use wire::put_zeros;
+
+// The time of a package.
+fn time_of(h: Header, p: Package) -> u64
+    ensures { λ r. ⌜ r ≡ packageTime (h .seconds) (h .nanos) (p .delta) ⌝ }
+{
+    h.seconds as u64 * 1_000_000_000 + h.nanos as u64 + p.delta as u64
+}
+
+// Whether the sheet grants package p of the message with header h.
+fn is_granted(h: Header, p: Package, rows: [Row; 32], n: usize) -> bool
+    ensures { λ r. ⌜ r ≡ someGrants (take n rows) (h .id .0) (p .id .0) (packageTime (h .seconds) (h .nanos) (p .delta)) ⌝ }
+{
+    let m = h.id;
+    let id = p.id;
+    in_sheet(rows, n, m, id, time_of(h, p))
+}
+
+// The granted packages of a message: how many, and the bytes that they take.
+struct Size {
+    bytes: usize,
+    packages: usize,
+}
+
+// One package more, of n bytes, if it is granted.
+fn with_package(s: Size, n: usize, granted: bool) -> Size
+    requires { ⌜ (s .bytes ≤ 65536) × (s .packages ≤ 65536) × (n ≤ 65536) ⌝ }
+    ensures { λ r. ⌜ r ≡ withPackage s n granted ⌝ }
+{
+    if granted {
+        return Size {
+            bytes: s.bytes + n,
+            packages: s.packages + 1,
+        };
+    }
+    s
+}
+
+fn measure_packages(run: &[u8], h: Header, rows: [Row; 32], n: usize) -> Size
+    requires { ⌜ length (now run) ≤ 65536 ⌝ }
+    ensures { λ r. ⌜ Sized (sheetOf rows n) (who h) (now (run .entry)) r ⌝ }
+{
+    let mut size = Size {
+        bytes: 0,
+        packages: 0,
+    };
+    let mut at = 0;
+    while at < run.len() {
+        let found = package_at(run, at);
+        match found {
+            PackageRead::Package(p) => {
+                let next = p.next;
+                size = with_package(size, next - at, is_granted(h, p, rows, n));
+                at = next;
+            }
+            PackageRead::End => {
+                return size;
+            }
+            PackageRead::Refused(_) => {
+                return size;
+            }
+        }
+    }
+    size
+}
+
+// What a copy takes, and what it reports.
+pub struct Totals {
+    pub bytes: usize,
+    pub messages: usize,
+    pub packages: usize,
+}
+
+// One message more, if it has a granted package.
+fn with_entry(t: Totals, s: Size) -> Totals
+    requires { ⌜ (t .bytes ≤ 65536) × (t .messages ≤ 65536) × (t .packages ≤ 65536) × (s .bytes ≤ 65536) × (s .packages ≤ 65536) ⌝ }
+    ensures { λ r. ⌜ r ≡ withEntry t s ⌝ }
+{
+    if s.packages == 0 {
+        return t;
+    }
+    Totals {
+        bytes: t.bytes + 24 + s.bytes,
+        messages: t.messages + 1,
+        packages: t.packages + s.packages,
+    }
+}
+
+enum Measured {
+    Fits(Totals),
+    Refused(Refusal),
+}
+
+// What the copy of a recording takes, or why the recording is refused.
+fn measure(recording: &[u8], rows: [Row; 32], n: usize) -> Measured
+    ensures { λ r. ⌜ toldMeasure r ≡ measured (sheetOf rows n) (now (recording .entry)) ⌝ }
+{
+    if 65536 < recording.len() {
+        return Measured::Refused(Refusal {
+            why: Why::Large,
+            place: 65536,
+        });
+    }
+    let mut totals = Totals {
+        bytes: 0,
+        messages: 0,
+        packages: 0,
+    };
+    let mut at = 0;
+    while at < recording.len() {
+        let found = message_at(recording, at);
+        match found {
+            MessageRead::Message(m) => {
+                let from = m.payload;
+                let next = m.next;
+                let h = m.header;
+                let size = measure_packages(&recording[from..next], h, rows, n);
+                totals = with_entry(totals, size);
+                at = next;
+            }
+            MessageRead::Refused(f) => {
+                return Measured::Refused(f);
+            }
+        }
+    }
+    Measured::Fits(totals)
+}
+
+// Stores package p of a run from `at` on, reserved byte and padding zero.
+fn write_package(run: &[u8], p: Package, out: &mut [u8], at: usize)
+    requires { ⌜ (at ≤ 262144) × Placed (now run) 0 p ⌝ }
+    ensures { λ _. ⌜ now (out .exit) ≡ sets (now (out .entry)) at (pieceAs (now (run .entry)) p) ⌝ }
+{
+    let from = p.from;
+    let to = p.to;
+    put_word(out, at, p.id.0);
+    put_half(out, at + 4, p.length);
+    put_byte(out, at + 6, 0);
+    put_byte(out, at + 7, p.status);
+    put_word(out, at + 8, p.delta);
+    put_part(out, at + 12, run, from, to - from);
+    put_zeros(out, at + 12 + (to - from), p.next - to);
+}
+
+// Stores it, if it is granted. It takes the bytes from place k of the run on.
+fn write_granted(
+    run: &[u8],
+    k: usize,
+    p: Package,
+    granted: bool,
+    out: &mut [u8],
+    at: usize,
+) -> usize
+    requires { ⌜ (at ≤ 196608) × Placed (now run) k p ⌝ }
+    ensures { λ r. ⌜ Stored (now (out .entry)) (now (out .exit)) at r granted (pieceAs (now (run .entry)) p) (p .next - k) ⌝ }
+{
+    if granted {
+        write_package(run, p, out, at);
+        return at + (p.next - k);
+    }
+    at
+}
+
+// Stores the granted packages of a run from `to` on, and says how many bytes they take.
+fn write_packages(
+    run: &[u8],
+    h: Header,
+    rows: [Row; 32],
+    n: usize,
+    out: &mut [u8],
+    to: usize,
+) -> usize
+    requires { ⌜ (length (now run) ≤ 65536) × (to ≤ 131072) ⌝ }
+    ensures { λ r. ⌜ StoredRun (sheetOf rows n) (who h) (now (run .entry)) (now (out .entry)) (now (out .exit)) to r ⌝ }
+{
+    let mut end = to;
+    let mut at = 0;
+    while at < run.len() {
+        let found = package_at(run, at);
+        match found {
+            PackageRead::Package(p) => {
+                let behind = p.next;
+                end = write_granted(run, at, p, is_granted(h, p, rows, n), out, end);
+                at = behind;
+            }
+            PackageRead::End => {
+                return end - to;
+            }
+            PackageRead::Refused(_) => {
+                return end - to;
+            }
+        }
+    }
+    end - to
+}
+
+// How often an id stands in a list.
+fn count_of(ids: &[u32], id: u32) -> u32
+    requires { ⌜ length (now ids) ≤ 65536 ⌝ }
+    ensures { λ r. ⌜ r ≡ count id (now (ids .entry)) ⌝ }
+{
+    let mut n: u32 = 0;
+    let mut i = 0;
+    while i < ids.len() {
+        if ids[i] == id {
+            n += 1;
+        }
+        i += 1;
+    }
+    n
+}
+
+// Stores the header of a message of the copy.
+fn write_head(out: &mut [u8], at: usize, h: Header, sequence: u32, size: u32)
+    requires { ⌜ at ≤ 65536 ⌝ }
+    ensures { λ _. ⌜ now (out .exit) ≡ sets (now (out .entry)) at (headBytes h sequence size) ⌝ }
+{
+    put_byte(out, at, 16);
+    put_half(out, at + 1, 0);
+    put_byte(out, at + 3, 192 + h.flags / 2 % 8 * 2);
+    put_word(out, at + 4, h.id.0);
+    put_word(out, at + 8, sequence);
+    put_word(out, at + 12, size);
+    put_word(out, at + 16, h.seconds);
+    put_word(out, at + 20, h.nanos);
+}
+
+// Stores what a message adds to the copy, the ids of the earlier ones being seen, and says how many bytes it takes.
+fn write_entry(
+    run: &[u8],
+    h: Header,
+    rows: [Row; 32],
+    n: usize,
+    seen: &[u32],
+    out: &mut [u8],
+    at: usize,
+) -> usize
+    requires { ⌜ (length (now run) ≤ 65536) × (length (now seen) ≤ 65536) × (at ≤ 65536) ⌝ }
+    ensures { λ r. ⌜ StoredEntry (sheetOf rows n) h (now (run .entry)) (now (seen .entry)) (now (out .entry)) (now (out .exit)) at r ⌝ }
+{
+    let bytes = write_packages(run, h, rows, n, out, at + 24);
+    if bytes == 0 {
+        return 0;
+    }
+    let sequence = count_of(seen, h.id.0);
+    write_head(out, at, h, sequence, (24 + bytes) as u32);
+    24 + bytes
+}
+
+// Writes the copy of a recording that passes.
+fn write(recording: &[u8], rows: [Row; 32], n: usize, out: &mut [u8])
+    requires { ⌜ length (now recording) ≤ 65536 ⌝ }
+    ensures { λ _. ⌜ Wrote (sheetOf rows n) (now (recording .entry)) (now (out .entry)) (now (out .exit)) ⌝ }
+{
+    let mut ids = [0u32; 1820];
+    let mut count = 0;
+    let mut to = 0;
+    let mut at = 0;
+    while at < recording.len() {
+        let found = message_at(recording, at);
+        match found {
+            MessageRead::Message(m) => {
+                let from = m.payload;
+                let next = m.next;
+                let h = m.header;
+                let bytes = write_entry(&recording[from..next], h, rows, n, &ids[..count], out, to);
+                if bytes != 0 {
+                    ids[count] = h.id.0;
+                    count += 1;
+                    to += bytes;
+                }
+                at = next;
+            }
+            MessageRead::Refused(_) => {
+                return;
+            }
+        }
+    }
+}
+
+pub enum Copied {
+    Written(Totals),
+    Refused(Refusal),
+}
+
+// The copy of a recording under a sheet, into a buffer.
+pub fn copy(recording: &[u8], sheet: &[u8], out: &mut [u8]) -> Copied
+    ensures { λ r. ⌜ told r (now (out .exit)) ≡ copy (now (sheet .entry)) (now (recording .entry)) (now (out .entry)) ⌝ }
+{
+    let read = read_sheet(sheet);
+    let answer = read.answer;
+    match answer {
+        SheetAnswer::Refused(f) => Copied::Refused(f),
+        SheetAnswer::Good => {
+            let rows = read.rows;
+            let n = read.count;
+            let size = measure(recording, rows, n);
+            match size {
+                Measured::Refused(f) => Copied::Refused(f),
+                Measured::Fits(totals) => {
+                    if out.len() < totals.bytes {
+                        return Copied::Refused(Refusal {
+                            why: Why::Room,
+                            place: totals.bytes,
+                        });
+                    }
+                    write(recording, rows, n, out);
+                    Copied::Written(totals)
+                }
+            }
+        }
+    }
+}
