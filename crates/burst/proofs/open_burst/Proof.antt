@@ -1,0 +1,125 @@
+-- `burst::open_burst` meets its contract: each answer with the tests that led to it.
+use Prim.Native.Nat.{ℕ, _≤_}
+use mathlib.Core.Path.{_≡_, ap, sym, _∙_}
+use mathlib.Core.Bool.{true}
+use mathlib.Core.List.{List}
+use native.Mathlib.Omega.{arith}
+use lib.ListN.{length}
+use borrow.Author.Needs.{needs}
+use borrow.Author.Tests.{not-true, not-false}
+use Rattle.rules.specs.Burst.{marked, blocksFit}
+use Rattle.burst.specs.declared.Opened.{Opened}
+use Rattle.burst.specs.Told.{toldOpened}
+use Rattle.burst.proofs.Buffer.{behind}
+use Rattle.burst.proofs.Answers.{opener-large, opener-marker, opener-blocks, opener-done, room}
+use Rattle.burst.proofs.open_burst.Statement.{statement}
+use Rattle.burst.proofs.open_burst.Tie as tie
+
+-- the burst, and what its tests say of it
+abbrev S : tie.After-blocks-fit → List ℕ
+S c = c .before .before .before .before .args .buf .now
+
+begins : (c : tie.Else2) → marked (S (c .before .before)) ≡ true
+begins c =
+    let m = c .before .before .before .is-marked in
+    sym (m .ensures) ∙ not-false (m .result) (c .if2 .left)
+
+marker-in : (c : tie.Else2) → 8 ≤ length (S (c .before .before))
+marker-in c = room (S (c .before .before)) (begins c)
+
+whole : (c : tie.Else3) → blocksFit (length (S (c .before .before .before))) ≡ true
+whole c =
+    let b = c .before .before .before .blocks-fit in
+    sym (b .ensures) ∙ not-false (b .result) (c .if3 .left)
+
+is-marked-requires : tie.Need-is-marked-requires
+is-marked-requires c κs = search needs
+
+blocks-fit-requires : tie.Need-blocks-fit-requires
+blocks-fit-requires c κs = search needs
+
+no-requires : tie.Need-no-requires
+no-requires c κs = search needs
+
+same-length : tie.Need-same-length
+same-length c = search needs
+
+returns : tie.Need-returns
+returns c =
+    let s = S (c .before .before) in
+    ap (λ (a : Opened). toldOpened a s) (c .no .ensures) ∙ opener-large s (c .before .if1 .taken)
+
+no-requires-2 : tie.Need-no-requires-2
+no-requires-2 c κs = search needs
+
+same-length-2 : tie.Need-same-length-2
+same-length-2 c = search needs
+
+returns-2 : tie.Need-returns-2
+returns-2 c =
+    let d = c .before .before .before in
+    let m = d .before .is-marked in
+    ap (λ (a : Opened). toldOpened a (S d)) (c .no2 .ensures)
+    ∙ opener-marker (S d) (c .before .before .if1 .left) (sym (m .ensures) ∙ not-true (m .result) (c .before .if2 .taken))
+
+no-requires-3 : tie.Need-no-requires-3
+no-requires-3 c κs = search needs
+
+same-length-3 : tie.Need-same-length-3
+same-length-3 c = search needs
+
+returns-3 : tie.Need-returns-3
+returns-3 c =
+    let e = c .before .before in
+    let d = e .before .before in
+    let b = d .blocks-fit in
+    ap (λ (a : Opened). toldOpened a (S d)) (c .no3 .ensures)
+    ∙ opener-blocks (S d) (e .before .if1 .left) (begins e) (sym (b .ensures) ∙ not-true (b .result) (c .before .if3 .taken))
+
+sub-randomize-all : tie.Need-sub-randomize-all
+sub-randomize-all c = omega (arith, marker-in (c .before))
+
+part-randomize-all-start : tie.Need-part-randomize-all-start
+part-randomize-all-start c = omega (arith, marker-in (c .before))
+
+part-randomize-all-end : tie.Need-part-randomize-all-end
+part-randomize-all-end c = search needs
+
+randomize-all-requires : tie.Need-randomize-all-requires
+randomize-all-requires c κs = search needs
+
+blocks-in-requires : tie.Need-blocks-in-requires
+blocks-in-requires c κs = search needs
+
+same-length-4 : tie.Need-same-length-4
+same-length-4 c = search needs
+
+returns-4 : tie.Need-returns-4
+returns-4 c =
+    let r = c .before .before .before .randomize-all in
+    let e = c .before .before .before .before .before in
+    let s = S (e .before .before .before) in
+    opener-done s (e .before .before .if1 .left) (begins (e .before)) (c .blocks-in .result) _ (whole e) (c .blocks-in .ensures) (behind 8 s (r .last .0) (r .ensures))
+
+pub open-burst-spec : {M : Type 1} → statement M
+open-burst-spec =
+    tie.close
+    (tie.spec
+    is-marked-requires
+    blocks-fit-requires
+    no-requires
+    same-length
+    returns
+    no-requires-2
+    same-length-2
+    returns-2
+    no-requires-3
+    same-length-3
+    returns-3
+    sub-randomize-all
+    part-randomize-all-start
+    part-randomize-all-end
+    randomize-all-requires
+    blocks-in-requires
+    same-length-4
+    returns-4)
