@@ -13,7 +13,7 @@ use Rattle.rules.specs.Writer.{written, writer}
 use Rattle.rules.specs.Clean.{clean, cleaner}
 use Rattle.rules.specs.Copy.{releasedOf, roomFor, answered, copy}
 use Rattle.rules.specs.Burst.{randomizing, opening, randomizer, opener}
-use Rattle.rules.specs.Claims.{BuffersKept, WrittenRead, AcceptedValid, ReadValid, ReadWritten, PartsWritten, CleanTwice, CleanExactly, PackageExactly, CutExactly, WalkShowsAll, GrantedExactly, Recurrence, BitPeriod, TableEntry, RandomizedTwice, TableHolds, SameCopies, DifferentCopies, CountsReleased, SequenceCounted, OneOutcome, partsOf}
+use Rattle.rules.specs.Claims.{BuffersKept, WrittenRead, AcceptedValid, ReadValid, ReadWritten, PartsWritten, CleanTwice, CleanExactly, PackageExactly, CutExactly, WalkShowsAll, WalkStays, GrantedExactly, Recurrence, BitPeriod, TableEntry, RandomizedTwice, TableHolds, SameCopies, DifferentCopies, CountsReleased, SequenceCounted, OneOutcome, partsOf}
 use Rattle.rules.proofs.Outcomes.{pass, step, stepped, good-inj}
 use Rattle.rules.proofs.Kept.{careful-stored, careful-answered, kept-randomized, kept-opened}
 use Rattle.rules.proofs.Cut as Cut
@@ -21,7 +21,7 @@ use Rattle.rules.proofs.Passed.{passes}
 use Rattle.rules.proofs.RoundTrip as RoundTrip
 use Rattle.rules.proofs.Writer.{accepts, accepted-valid, parts, parts-written}
 use Rattle.rules.proofs.Refused.{exactly}
-use Rattle.rules.proofs.Walks.{walks-cut}
+use Rattle.rules.proofs.Walks.{walks-cut, stays}
 use Rattle.rules.proofs.Granted.{granted-exactly}
 use Rattle.rules.proofs.Sequence as Sequence
 use Rattle.rules.proofs.Table.{table}
@@ -88,6 +88,9 @@ cut-exactly p s pieces = (λ e. Cut.sound 0 p s e, λ f. Cut.complete f p)
 
 pub walk-shows-all : WalkShowsAll
 walk-shows-all = walks-cut
+
+pub walk-stays : WalkStays
+walk-stays = stays
 
 pub granted-by-ranges : GrantedExactly
 granted-by-ranges rows m k = granted-exactly m k rows

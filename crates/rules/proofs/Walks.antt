@@ -2,16 +2,16 @@
 use Prim.Native.Nat.{ℕ, zero, suc, _+_, _-_, _≤_, _<_}
 use mathlib.Core.Path.{_≡_, refl, ap, sym, subst, _∙_}
 use mathlib.Core.List.{List, [], _∷_, _++_, map}
-use mathlib.Core.Option.{none, some}
+use mathlib.Core.Option.{Option, none, some}
 use native.Mathlib.Omega.{arith}
 use borrow.Author.Tests.{le-ltb, le-leb, lt-leb}
 use lib.ListN.{length, take, drop, length-drop, length-append}
 use lib.Seq.{drop-drop, take-take, drop-append-seam, take-append-seam}
-use Rattle.rules.specs.Outcome.{good}
+use Rattle.rules.specs.Outcome.{Outcome, good, bad}
 use Rattle.rules.specs.Bytes.{half, pad, part}
 use Rattle.rules.specs.Packages as P
 use Rattle.rules.specs.Packages.{Package, piece, cut, packageOf, Piece, Fills}
-use Rattle.rules.specs.Walk.{PackageSpot, packageSpot, packageAt, nextAt, packageIn, Walks, ends, shows}
+use Rattle.rules.specs.Walk.{PackageSpot, packageSpot, packageAt, dataIn, nextIn, dataAt, nextAt, packageIn, Walks, ends, shows}
 use Rattle.rules.proofs.Outcomes.{pass, step}
 use Rattle.rules.proofs.Cut.{piece-again, sound}
 
@@ -61,3 +61,13 @@ module _ (s : List ℕ) (small : length s ≤ 65536) where
   -- a run that is cut is walked
   pub walks-cut : (cs : List (List ℕ)) → cut 0 s ≡ good cs → Walks s 0 (map packageOf cs)
   walks-cut cs e = walks 0 (sound 0 0 s e) refl
+
+-- where no package is shown the walk stays
+pub stays : (s : List ℕ) (i : ℕ) → ((k : PackageSpot) → packageAt s i ≡ good (some k) → ⊥) → (nextAt s i ≡ i) × (dataAt s i ≡ [])
+unfolding nextAt dataAt
+stays s i unshown = go (packageAt s i) (λ k e. unshown k e)
+  where
+    go : (o : Outcome (Option PackageSpot)) → ((k : PackageSpot) → o ≡ good (some k) → ⊥) → (nextIn i o ≡ i) × (dataIn s o ≡ [])
+    go (good none) unshown = (refl, refl)
+    go (good (some k)) unshown = absurd (unshown k refl)
+    go (bad n p) unshown = (refl, refl)

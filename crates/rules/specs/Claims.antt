@@ -4,13 +4,14 @@ use mathlib.Core.Path.{_≡_}
 use mathlib.Core.Logic.{_↔_}
 use mathlib.Core.Bool.{true}
 use mathlib.Core.List.{List, [], _∷_, _++_, map}
+use mathlib.Core.Option.{some}
 use lib.ListN.{length, getD, drop}
 use Rattle.rules.specs.Outcome.{good, bad, PACKAGE}
 use Rattle.rules.specs.Bytes.{Bytes, any}
 use Rattle.rules.specs.Packages.{Package, cut, packageOf, Fills}
 use Rattle.rules.specs.Message.{mostBytes, Head, head, payload, fragmentBits, standardBit, runLength, Message, message}
 use Rattle.rules.specs.Reading.{optionRun}
-use Rattle.rules.specs.Walk.{Walks}
+use Rattle.rules.specs.Walk.{PackageSpot, packageAt, dataAt, nextAt, Walks}
 use Rattle.rules.specs.Writer.{write, Draft, accepted, written, writer}
 use Rattle.rules.specs.Clean.{clean, cleaner}
 use Rattle.rules.specs.Valid.{Valid, DraftFits}
@@ -93,6 +94,10 @@ CutExactly = (p : ℕ) (s : List ℕ) (pieces : List (List ℕ)) → (cut p s �
 -- A walk shows every package of the cut, in order, and then the end.
 abbrev pub WalkShowsAll : Type 0
 WalkShowsAll = (s : List ℕ) → length s ≤ mostBytes → (pieces : List (List ℕ)) → cut 0 s ≡ good pieces → Walks s 0 (map packageOf pieces)
+
+-- Where a step shows no package, at the end or at a refusal, the walk has not moved and the part shown is empty.
+abbrev pub WalkStays : Type 0
+WalkStays = (s : List ℕ) (i : ℕ) → ((k : PackageSpot) → packageAt s i ≡ good (some k) → ⊥) → (nextAt s i ≡ i) × (dataAt s i ≡ [])
 
 -- A package is granted exactly if message id, package id and package time all lie in the ranges of some row, ends included.
 pub record InRanges (m : Message) (k : Package) (r : Row) : Type 0 where

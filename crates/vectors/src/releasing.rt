@@ -1,0 +1,112 @@
+// Order sheets and the copy.
+use release::Copied;
+use sheet::SheetAnswer;
+use sheet::Time;
+
+// Row R of document 01: ids 7 to 7, 1 to 1, from 100 s to 101 s.
+const R: [u8; 32] = [
+    0x00,
+    0x00,
+    0x00,
+    0x07,
+    0x00,
+    0x00,
+    0x00,
+    0x07,
+    0x00,
+    0x00,
+    0x00,
+    0x01,
+    0x00,
+    0x00,
+    0x00,
+    0x01,
+    0x00,
+    0x00,
+    0x00,
+    0x64,
+    0x00,
+    0x00,
+    0x00,
+    0x00,
+    0x00,
+    0x00,
+    0x01,
+    0x94,
+    0x00,
+    0x00,
+    0x00,
+    0x00,
+];
+
+fn time(t: Time) {
+    crate::number(t.sec as usize);
+    crate::number(t.ns as usize);
+}
+
+// Number, place, how many rows, and the first row.
+fn sheet(s: &[u8]) {
+    let read = sheet::read_sheet(s);
+    let answer = read.answer;
+    match answer {
+        SheetAnswer::Good => {
+            crate::number(0);
+            crate::number(0);
+        }
+        SheetAnswer::Refused(x) => {
+            crate::refusal(x);
+        }
+    }
+    crate::number(read.count);
+    let rows = read.rows;
+    let row = rows[0];
+    crate::number(row.first_mdid.0 as usize);
+    crate::number(row.last_mdid.0 as usize);
+    crate::number(row.first_pdid.0 as usize);
+    crate::number(row.last_pdid.0 as usize);
+    let start = row.start;
+    time(start);
+    let end = row.end;
+    time(end);
+    crate::end();
+}
+
+// Number, place, bytes, messages and packages; and the buffer.
+fn copied(recording: &[u8], sheet: &[u8], out: &mut [u8]) {
+    match release::copy(recording, sheet, out) {
+        Copied::Written(t) => {
+            crate::number(0);
+            crate::number(0);
+            crate::number(t.bytes);
+            crate::number(t.messages);
+            crate::number(t.packages);
+        }
+        Copied::Refused(x) => {
+            crate::refusal(x);
+            crate::number(0);
+            crate::number(0);
+            crate::number(0);
+        }
+    }
+    crate::show(out);
+}
+
+pub fn releasing() {
+    let m = crate::M;
+    // P9, a sheet of 33 bytes, and a spare bit that is not zero.
+    let mut r = R;
+    sheet(&r);
+    let odd = [0u8; 33];
+    sheet(&odd);
+    r[31] = 0x01;
+    sheet(&r);
+    r[31] = 0x00;
+    // P1 and P10; a buffer of 44 bytes keeps its last four, and one of 39 is ROOM, 40.
+    let mut out = [0xEEu8; 44];
+    copied(b"", &r, &mut out);
+    copied(&m, &r, &mut out);
+    let mut short = [0xEEu8; 39];
+    copied(&m, &r, &mut short);
+    // A bad sheet is found before a bad recording.
+    copied(b"\x20", &odd, &mut short);
+}
