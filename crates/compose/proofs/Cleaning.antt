@@ -20,45 +20,34 @@ use Rattle.rules.proofs.Cut as Cut
 use Rattle.rules.proofs.Passed.{Passed, passes}
 use Rattle.rules.proofs.Cleaned.{fills, write-read}
 use Rattle.rules.proofs.Valids.{valid, run-length}
+use Rattle.rules.proofs.Writer.{parts}
 use Rattle.compose.specs.Payload.{Cuts, messageOf, sizeOf, sized, finished, Fit}
 use Rattle.compose.proofs.Answered.{answer, refusing, finishing}
 use Rattle.compose.proofs.Whole.{rendered-length, message-length}
-
--- the parts of the message at the start of s, whose option run has n bytes
-abbrev pub partsOf : List ℕ → ℕ → Draft
-partsOf s n = record {
-  flags = head s .flags;
-  id = head s .id;
-  sequence = head s .sequence;
-  seconds = head s .seconds;
-  nanos = head s .nanos;
-  options = part 24 (24 + n) s;
-  packages = part (front (head s)) (head s .size) s;
-}
 
 module _ (s : List ℕ) (r : ℕ × List (List ℕ)) (b : Bytes s) (e : parsed 0 s (head s) ≡ good r) where
   w : Passed 0 s (head s) r
   w = passes 0 s (head s) r e
 
-  again : cut 0 (partsOf s (r .0) .packages) ≡ good (r .1)
+  again : cut 0 (parts s r .packages) ≡ good (r .1)
   again = Cut.complete (fills 0 s r b w) 0
 
-  pub cleaned-cuts : Cuts (partsOf s (r .0) .packages)
+  pub cleaned-cuts : Cuts (parts s r .packages)
   cleaned-cuts = record { pieces = r .1; cuts = again }
 
-  pub cleaned-bytes : messageOf (partsOf s (r .0)) (cut 0 (partsOf s (r .0) .packages)) ≡ cleaned s r
+  pub cleaned-bytes : messageOf (parts s r) (cut 0 (parts s r .packages)) ≡ cleaned s r
   unfolding messageOf drafted recordOf
   cleaned-bytes = rw again (write-read 0 s r b w)
 
   -- how long the parts are
-  pub run-size : length (partsOf s (r .0) .options) ≡ r .0
+  pub run-size : length (parts s r .options) ≡ r .0
   run-size = run-length 0 s r b w
 
-  pub payload-size : length (partsOf s (r .0) .packages) ≡ head s .size - front (head s)
+  pub payload-size : length (parts s r .packages) ≡ head s .size - front (head s)
   payload-size = rw (length-take, length-drop) (omega (arith, w .header .least, w .header .most))
 
-  pub cleaned-length : length (cleaned s r) ≡ sizeOf (partsOf s (r .0))
-  cleaned-length = ap length (sym cleaned-bytes) ∙ message-length (partsOf s (r .0)) cleaned-cuts
+  pub cleaned-length : length (cleaned s r) ≡ sizeOf (parts s r)
+  cleaned-length = ap length (sym cleaned-bytes) ∙ message-length (parts s r) cleaned-cuts
 
 -- the parts of the message that was read at the start of s, by its numbers
 abbrev pub spotDraft : List ℕ → MessageSpot → Draft

@@ -1,15 +1,12 @@
 -- Messages: how the released list and the copy grow, and what the two loops over a recording keep.
-use Prim.Native.Nat.{ℕ, suc, _+_, _-_, _*_, _/_, _%_, _≤_, _<_}
+use Prim.Native.Nat.{ℕ, _+_, _-_, _*_, _/_, _%_, _≤_, _<_}
 use mathlib.Core.Path.{_≡_, refl, sym, ap, ap₂, _∙_}
 use mathlib.Core.Logic.{⊎-elim}
 use mathlib.Core.Bool.{Bool, true, false, _||_}
 use mathlib.Core.List.{List, [], _∷_, _++_, map, append-nil}
-use native.Mathlib.Nat.{add-zero, zero-add}
-use native.Mathlib.Numerals.{add-one}
 use native.Mathlib.Omega.{arith}
-use lib.Dec.{eqb}
-use lib.ListN.{length, getD, take, drop, length-append, length-drop}
-use lib.Seq.{take-suc, drop-drop, length-take-le}
+use lib.ListN.{length, take, drop, length-append, length-drop}
+use lib.Seq.{drop-drop, length-take-le}
 use borrow.Author.Tests.{eq-eqb, ne-eqb, le-ltb}
 use Rattle.rules.specs.Outcome.{good, bad}
 use Rattle.rules.specs.Bytes.{part}
@@ -23,8 +20,8 @@ use Rattle.rules.specs.Copy.{granted, Entry, granteds, enter, released, count, 
 use Rattle.rules.proofs.Outcomes.{pass, step, stop, passed, stepped, good-inj, good≢bad, refused-step}
 use Rattle.rules.proofs.Cut as Cut
 use Rattle.rules.proofs.Passed.{Passed, passes}
-use Rattle.rules.specs.Copy.{idOf}
 use Rattle.rules.proofs.Growing.{released-snoc, rendered-snoc}
+use Rattle.rules.specs.Copy.{idOf}
 use Rattle.rules.proofs.Loops.{Doing, doing-next}
 use Rattle.refusal.specs.declared.Refusal.{Refusal}
 use Rattle.refusal.specs.Numbers.{numberOf}
@@ -34,38 +31,15 @@ use Rattle.message.specs.declared.MessageRead.the-variants as M
 use Rattle.message.specs.Answers.{messageHere, toldMessage}
 use Rattle.rules.specs.Reading.{MessageSpot, messageSpot, messageAt}
 use Rattle.release.specs.declared.Size.{Size}
-use Rattle.release.specs.Parts.{who, kept, payloadOf, withEntry, headBytes, entryBytes}
+use Rattle.release.specs.Parts.{who, kept, payloadOf, withEntry, headBytes}
 use Rattle.release.specs.Told.{totals}
 
--- ---- counting ids
+-- the message of the copy with sequence number n and the granted packages ps; nothing where there are none
+unfoldable pub entryBytes : Header → ℕ → List rules.Package → List ℕ
+entryBytes h n [] = []
+entryBytes h n (p ∷ ps) = headBytes h n (24 + length (payloadOf (p ∷ ps))) ++ payloadOf (p ∷ ps)
 
-count-append : (x : ℕ) (l m : List ℕ) → count x (l ++ m) ≡ count x l + count x m
-unfolding count
-count-append x [] m = sym (zero-add (count x m))
-count-append x (y ∷ l) m = go (eqb x y) (count-append x l m)
-  where
-    go : (b : Bool) → count x (l ++ m) ≡ count x l + count x m
-        → elim b [ true ↦ suc (count x (l ++ m)) | false ↦ count x (l ++ m) ] ≡ elim b [ true ↦ suc (count x l) | false ↦ count x l ] + count x m
-    go true e = omega arith
-    go false e = e
-
-count-same : (x : ℕ) → count x (x ∷ []) ≡ 1
-unfolding count
-count-same x = rw (eq-eqb x x refl, count)
-
-count-other : (x y : ℕ) → (y ≡ x → ⊥) → count x (y ∷ []) ≡ 0
-unfolding count
-count-other x y h = rw (ne-eqb x y (λ q. h (sym q)), count)
-
-module _ (x : ℕ) (ids : List ℕ) (i n : ℕ) (l : i < length ids) (so-far : n ≡ count x (take i ids)) where
-  pub count-hit : getD ids i 0 ≡ x → n + 1 ≡ count x (take (i + 1) ids)
-  count-hit e = rw (add-one i, take-suc ids i 0 l, count-append, e, count-same, so-far)
-
-  pub count-miss : (getD ids i 0 ≡ x → ⊥) → n ≡ count x (take (i + 1) ids)
-  count-miss e = rw (add-one i, take-suc ids i 0 l, count-append, count-other x (getD ids i 0) e, add-zero, so-far)
-
--- ---- a message that was read
-
+-- a message that was read
 pub record Met (tape : List ℕ) (k : ℕ) (m : Message) : Type 0 where
   pub r : ℕ × List (List ℕ)
   pub read : parsed k (drop k tape) (head (drop k tape)) ≡ good r
@@ -189,15 +163,15 @@ module _ (tape : List ℕ) (k : ℕ) (m : Message) (f : Met tape k m) where
     unfolding recordOf
     id-is = f .id
 
-    pub rendered-grown : (es : List Entry) (qs : List rules.Package) → rendered (es ++ enter it qs []) ≡ rendered es ++ entryBytes (m .header) (map idOf es) qs
+    pub rendered-grown : (es : List Entry) (qs : List rules.Package) → rendered (es ++ enter it qs []) ≡ rendered es ++ entryBytes (m .header) (count (m .header .id .0) (map idOf es)) qs
     unfolding enter entryBytes
     rendered-grown es [] = rw append-nil (sym (append-nil (rendered es)))
     rendered-grown es (p ∷ qs) = rendered-snoc es _ ∙ ap (λ (s : List ℕ). rendered es ++ s) (written (count (it .id) (map idOf es)) p qs ∙ rw id-is)
 
 -- a message of the copy has its header, and one package at least
-pub entry-length : (h : Header) (seen : List ℕ) (p : rules.Package) (qs : List rules.Package) → length (entryBytes h seen (p ∷ qs)) ≡ 24 + length (payloadOf (p ∷ qs))
+pub entry-length : (h : Header) (n : ℕ) (p : rules.Package) (qs : List rules.Package) → length (entryBytes h n (p ∷ qs)) ≡ 24 + length (payloadOf (p ∷ qs))
 unfolding entryBytes headBytes
-entry-length h seen p qs = omega arith
+entry-length h n p qs = omega arith
 
 pub payload-least : (p : rules.Package) (qs : List rules.Package) → 12 ≤ length (payloadOf (p ∷ qs))
 unfolding pieceOf
@@ -216,9 +190,10 @@ module _ (tape : List ℕ) (k : ℕ) (m : Message) (f : Met tape k m) (rs : List
   totals-grown es [] s b p = rw (eq-eqb (s .packages) 0 p, append-nil)
   totals-grown es (q ∷ qs) s b p =
       let n : (s .packages ≡ 0 → ⊥) = λ z. omega arith in
+      let n′ = count (m .header .id .0) (map idOf es) in
       let e : length (rendered es) + 24 + s .bytes ≡ length (rendered (es ++ enter (it tape k m f) (q ∷ qs) [])) =
       rw (rendered-grown tape k m f rs es (q ∷ qs))
-      (omega (arith, length-append (rendered es) (entryBytes (m .header) (map idOf es) (q ∷ qs)), entry-length (m .header) (map idOf es) q qs)) in
+      (omega (arith, length-append (rendered es) (entryBytes (m .header) n′ (q ∷ qs)), entry-length (m .header) n′ q qs)) in
       rw (ne-eqb (s .packages) 0 n, e, packages-snoc, p, length-append)
 
 -- one message more

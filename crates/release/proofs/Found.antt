@@ -144,12 +144,18 @@ module _ (run : List ℕ) (k : ℕ) (p : Package) (f : Found run k p) where
   pub within : k + f .n ≤ length run
   within = omega (arith, is-taken .fits .room, is-taken .fits .header, is-taken .size, length-drop k run)
 
+  pub on : k < p .next
+  on = omega (arith, next-is, least)
+
+  pub still : p .next ≤ length run
+  still = omega (arith, next-is, within)
+
   pub placed : length run ≤ 65536 → Placed run k p
   placed l = record {
     front = omega (arith, from-is);
     content = omega (arith, from-is, to-is, is-piece .least);
     padding = omega (arith, to-is, next-is, piece-size);
-    inside = omega (arith, next-is, within);
+    inside = still;
     short = l;
   }
 

@@ -6,7 +6,7 @@ ghost use lib.Seq.{sets};
 ghost use Rattle.rules.specs.Packages.{packageTime};
 ghost use Rattle.rules.specs.Copy.{count, copy};
 ghost use Rattle.sheet.specs.Rows.{someGrants};
-ghost use Rattle.release.specs.Parts.{sheetOf, who, Sized, withPackage, withEntry, Placed, pieceAs, Stored, StoredRun, headBytes, StoredEntry};
+ghost use Rattle.release.specs.Parts.{sheetOf, who, Sized, withPackage, withEntry, Placed, pieceAs, Stored, StoredRun, headBytes, Place, heldWith};
 ghost use Rattle.release.specs.Told.{toldMeasure, measured, Wrote, told};
 use message::Header;
 use message::MessageRead;
@@ -14,6 +14,7 @@ use message::Package;
 use message::PackageRead;
 use message::message_at;
 use message::package_at;
+use message::package_time;
 use refusal::Refusal;
 use refusal::Why;
 use sheet::Row;
@@ -26,20 +27,13 @@ use wire::put_part;
 use wire::put_word;
 use wire::put_zeros;
 
-// The time of a package.
-fn time_of(h: Header, p: Package) -> u64
-    ensures { λ r. ⌜ r ≡ packageTime (h .seconds) (h .nanos) (p .delta) ⌝ }
-{
-    h.seconds as u64 * 1_000_000_000 + h.nanos as u64 + p.delta as u64
-}
-
 // Whether the sheet grants package p of the message with header h.
 fn is_granted(h: Header, p: Package, rows: [Row; 32], n: usize) -> bool
     ensures { λ r. ⌜ r ≡ someGrants (take n rows) (h .id .0) (p .id .0) (packageTime (h .seconds) (h .nanos) (p .delta)) ⌝ }
 {
     let m = h.id;
     let id = p.id;
-    in_sheet(rows, n, m, id, time_of(h, p))
+    in_sheet(rows, n, m, id, package_time(h.seconds, h.nanos, p.delta))
 }
 
 // The granted packages of a message: how many, and the bytes that they take.
@@ -220,20 +214,34 @@ fn write_packages(
     end - to
 }
 
-// How often an id stands in a list.
-fn count_of(ids: &[u32], id: u32) -> u32
-    requires { ⌜ length (now ids) ≤ 65536 ⌝ }
-    ensures { λ r. ⌜ r ≡ count id (now (ids .entry)) ⌝ }
+// Where an id stands among ids that are all different, or how many they are.
+fn place_of(ids: &[u32], id: u32) -> usize
+    requires { ⌜ (length (now ids) ≤ 65536) × (count id (now ids) ≤ 1) ⌝ }
+    ensures { λ r. ⌜ Place (now (ids .entry)) id r ⌝ }
 {
-    let mut n: u32 = 0;
+    // How many stand from the id on: a sum, which no test ends early, so that several ids are compared at once.
+    let mut behind: u32 = 0;
+    let mut left = ids.len() as u32;
     let mut i = 0;
     while i < ids.len() {
         if ids[i] == id {
-            n += 1;
+            behind += left;
         }
+        left -= 1;
         i += 1;
     }
-    n
+    ids.len() - behind as usize
+}
+
+// One id more is held, if it has the place behind those held.
+fn held_with(held: usize, place: usize) -> usize
+    requires { ⌜ held ≤ 65536 ⌝ }
+    ensures { λ r. ⌜ r ≡ heldWith held place ⌝ }
+{
+    if place == held {
+        return held + 1;
+    }
+    held
 }
 
 // Stores the header of a message of the copy.
@@ -251,35 +259,15 @@ fn write_head(out: &mut [u8], at: usize, h: Header, sequence: u32, size: u32)
     put_word(out, at + 20, h.nanos);
 }
 
-// Stores what a message adds to the copy, the ids of the earlier ones being seen, and says how many bytes it takes.
-fn write_entry(
-    run: &[u8],
-    h: Header,
-    rows: [Row; 32],
-    n: usize,
-    seen: &[u32],
-    out: &mut [u8],
-    at: usize,
-) -> usize
-    requires { ⌜ (length (now run) ≤ 65536) × (length (now seen) ≤ 65536) × (at ≤ 65536) ⌝ }
-    ensures { λ r. ⌜ StoredEntry (sheetOf rows n) h (now (run .entry)) (now (seen .entry)) (now (out .entry)) (now (out .exit)) at r ⌝ }
-{
-    let bytes = write_packages(run, h, rows, n, out, at + 24);
-    if bytes == 0 {
-        return 0;
-    }
-    let sequence = count_of(seen, h.id.0);
-    write_head(out, at, h, sequence, (24 + bytes) as u32);
-    24 + bytes
-}
-
-// Writes the copy of a recording that passes.
+// Writes the copy of a recording that passes: of a message its packages first, and its header before them once there is one.
+// The first `held` of ids are the ids delivered so far, each once, and beside each is its next sequence number.
 fn write(recording: &[u8], rows: [Row; 32], n: usize, out: &mut [u8])
     requires { ⌜ length (now recording) ≤ 65536 ⌝ }
     ensures { λ _. ⌜ Wrote (sheetOf rows n) (now (recording .entry)) (now (out .entry)) (now (out .exit)) ⌝ }
 {
     let mut ids = [0u32; 1820];
-    let mut count = 0;
+    let mut numbers = [0u32; 1820];
+    let mut held = 0;
     let mut to = 0;
     let mut at = 0;
     while at < recording.len() {
@@ -289,11 +277,16 @@ fn write(recording: &[u8], rows: [Row; 32], n: usize, out: &mut [u8])
                 let from = m.payload;
                 let next = m.next;
                 let h = m.header;
-                let bytes = write_entry(&recording[from..next], h, rows, n, &ids[..count], out, to);
+                let bytes = write_packages(&recording[from..next], h, rows, n, out, to + 24);
                 if bytes != 0 {
-                    ids[count] = h.id.0;
-                    count += 1;
-                    to += bytes;
+                    let id = h.id.0;
+                    let place = place_of(&ids[..held], id);
+                    let sequence = numbers[place];
+                    write_head(out, to, h, sequence, (24 + bytes) as u32);
+                    ids[place] = id;
+                    numbers[place] = sequence + 1;
+                    held = held_with(held, place);
+                    to += 24 + bytes;
                 }
                 at = next;
             }

@@ -60,7 +60,7 @@ unfolding optionRun
 run-is s n e = rw (e, optionRun)
 
 parts-are : (s : List ℕ) (r : ℕ × List (List ℕ)) → length s ≤ 65536 → parsed 0 s (head s) ≡ good r → partsOf s (head s) ≡ parts s r
-unfolding parts parsed header
+unfolding parsed header
 parts-are s r l q =
     let (n, o, e) = stepped _ _ q in
     let (cs, f, e) = stepped _ _ e in

@@ -74,7 +74,7 @@ accepted-valid d f a =
     })
 
 -- the parts of a message that is read, as a draft
-unfoldable pub parts : List ℕ → ℕ × List (List ℕ) → Draft
+abbrev pub parts : List ℕ → ℕ × List (List ℕ) → Draft
 parts s r = record {
   flags = head s .flags;
   id = head s .id;
@@ -86,7 +86,7 @@ parts s r = record {
 }
 
 pub parts-written : (p : ℕ) (s : List ℕ) (r : ℕ × List (List ℕ)) → Bytes s → length s ≤ 65536 → Passed p s (head s) r → written (parts s r) ≡ good (cleaned s r)
-unfolding written accepted parts drafted recordOf
+unfolding written accepted drafted recordOf
 parts-written p s r b l w =
     let v : Valid (recordOf s (head s) r) = valid p s r b w l in
     let o : List ℕ = part 24 (24 + r .0) s in

@@ -1,5 +1,5 @@
 // Order sheets: a row, when it grants a package, and whether some row does. The rows are lent as a slice of structs, which the borrow
-// checker does not cover: some_row_grants and in_first are proved by hand. Whoever calls in_sheet passes an array by value, and is covered.
+// checker does not cover: some_row_grants, in_first and in_few are proved by hand. Whoever calls in_sheet passes an array by value, and is covered.
 ghost use mathlib.Core.Path.{_≡_};
 ghost use Prim.Native.Nat.{_≤_};
 ghost use lib.ListN.{take};
@@ -222,10 +222,22 @@ fn in_first(rows: [Row; 32], n: usize, m: Mdid, p: Pdid, t: u64) -> bool
     some_row_grants(&rows[..n], m, p, t)
 }
 
+// The same for a short sheet: whoever lends an array copies it first, and four rows are copied sooner than 32.
+fn in_few(rows: [Row; 4], n: usize, m: Mdid, p: Pdid, t: u64) -> bool
+    requires { ⌜ n ≤ 4 ⌝ }
+    ensures { λ r. ⌜ r ≡ someGrants (take n rows) (m .0) (p .0) t ⌝ }
+{
+    some_row_grants(&rows[..n], m, p, t)
+}
+
 // Whether one of the first n rows grants it: rows behind them grant nothing.
 pub fn in_sheet(rows: [Row; 32], n: usize, m: Mdid, p: Pdid, t: u64) -> bool
     ensures { λ r. ⌜ r ≡ someGrants (take n rows) (m .0) (p .0) t ⌝ }
 {
+    if n <= 4 {
+        let few = [rows[0], rows[1], rows[2], rows[3]];
+        return in_few(few, n, m, p, t);
+    }
     if n <= 32 {
         return in_first(rows, n, m, p, t);
     }
