@@ -1,0 +1,64 @@
+-- The values of a sheet's rows: eight stores for a row, and the rows one behind the other.
+use Prim.Native.Nat.{ℕ, suc, _+_, _*_, _<_}
+use mathlib.Core.Path.{_≡_, refl, ap, _∙_}
+use mathlib.Core.List.{List, [], _∷_, _++_, map, append-nil}
+use native.Mathlib.Numerals.{add-one}
+use native.Mathlib.Omega.{arith}
+use lib.ListN.{length, getD, set, take, drop, replicate}
+use lib.Seq.{sets, sets-eq, take-suc, length-take-le, drop-length}
+use Rattle.rules.specs.Outcome.{good}
+use Rattle.rules.specs.Bytes.{join}
+use Rattle.rules.specs.Sheet.{sheetRows}
+use Rattle.rules.proofs.Loops.{sets-sets}
+use Rattle.sheet.specs.declared.Row.{Row}
+use Rattle.sheet.specs.Rows.{rowIn}
+use Rattle.hibernaxo.specs.Told.{rowValues, sheetTold}
+
+-- the eight values of a row, stored one behind the other
+module _ (b : List ℕ) (k : ℕ) (r : Row) where
+  abbrev four : List ℕ
+  four = set (set (set (set b k (r .«first_mdid» .0)) (k + 1) (r .«last_mdid» .0)) (k + 2) (r .«first_pdid» .0)) (k + 3) (r .«last_pdid» .0)
+
+  pub stored : set (set (set (set four (k + 4) (r .start .sec)) (k + 5) (r .start .ns)) (k + 6) (r .end .sec)) (k + 7) (r .end .ns) ≡ sets b k (rowValues (rowIn r))
+  stored =
+      let b1 : k + 1 ≡ suc k = omega arith in
+      let b2 : k + 2 ≡ suc (suc k) = omega arith in
+      let b3 : k + 3 ≡ suc (suc (suc k)) = omega arith in
+      let b4 : k + 4 ≡ suc (suc (suc (suc k))) = omega arith in
+      let b5 : k + 5 ≡ suc (suc (suc (suc (suc k)))) = omega arith in
+      let b6 : k + 6 ≡ suc (suc (suc (suc (suc (suc k))))) = omega arith in
+      let b7 : k + 7 ≡ suc (suc (suc (suc (suc (suc (suc k)))))) = omega arith in
+      rw (b1, b2, b3, b4, b5, b6, b7)
+
+-- the values of rows
+abbrev pub valuesOf : List Row → List ℕ
+valuesOf l = join (map rowValues (map rowIn l))
+
+many : (l : List Row) → length (valuesOf l) ≡ 8 * length l
+many [] = refl
+many (r ∷ l) = omega (arith, many l)
+
+behind : (l : List Row) (r : Row) → valuesOf (l ++ (r ∷ [])) ≡ valuesOf l ++ rowValues (rowIn r)
+behind [] r = refl
+behind (q ∷ l) r = ap (λ (t : List ℕ). rowValues (rowIn q) ++ t) (behind l r)
+
+-- one row more
+pub next : (b : List ℕ) (rows : List Row) (i : ℕ) (d : Row) → i < length rows
+    → sets (sets b 2 (valuesOf (take i rows))) (2 + 8 * i) (rowValues (rowIn (getD rows i d))) ≡ sets b 2 (valuesOf (take (i + 1) rows))
+next b rows i d h =
+    let n : length (valuesOf (take i rows)) ≡ 8 * i = many (take i rows) ∙ ap (λ (k : ℕ). 8 * k) (length-take-le i rows (omega arith)) in
+    rw (add-one, take-suc rows i d h, behind, ← n) (sets-sets (valuesOf (take i rows)) (rowValues (rowIn (getD rows i d))) b 2)
+
+-- behind the place and the number of rows they fill the array
+filled : (p n : ℕ) (t vs : List ℕ) → length vs ≡ length t → sets (p ∷ n ∷ t) 2 vs ≡ p ∷ n ∷ vs
+filled p n t vs e =
+    let d : drop (length vs) t ≡ [] = rw e (drop-length t) in
+    let z : 2 + length vs ≡ suc (suc (length vs)) = omega arith in
+    sets-eq vs (p ∷ n ∷ t) 2 (omega arith) ∙ rw (z, d, append-nil vs)
+
+-- a sheet that was read, with all its rows stored
+pub shown : (s : List ℕ) (rows : List Row) (count : ℕ) {v : List ℕ} → length rows ≡ 32 → v ≡ sets (0 ∷ count ∷ replicate 256 0) 2 (valuesOf rows)
+    → good (map rowIn rows, count) ≡ sheetRows s → _≡_ {A = ℕ × List ℕ} (0, v) (sheetTold (sheetRows s))
+shown s rows count n e f =
+    let l : length (valuesOf rows) ≡ length {A = ℕ} (replicate 256 0) = many rows ∙ ap (λ (k : ℕ). 8 * k) n in
+    rw (e, filled 0 count (replicate 256 0) (valuesOf rows) l) (ap sheetTold f)

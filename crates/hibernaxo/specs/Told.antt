@@ -1,0 +1,66 @@
+-- What each export hands back, by the rules' answer: the refusal number, which it returns; the values, the place first; and the lent buffer as it is left, where one is lent.
+use Prim.Native.Nat.{ℕ, _-_}
+use mathlib.Core.List.{List, [], _∷_, map}
+use mathlib.Core.Option.{Option, none, some}
+use lib.ListN.{replicate}
+use Rattle.rules.specs.Outcome.{Outcome, good, bad}
+use Rattle.rules.specs.Bytes.{join}
+use Rattle.rules.specs.Packages.{packageHeader}
+use Rattle.rules.specs.Message.{Head, headerBytes}
+use Rattle.rules.specs.Walk.{PackageSpot}
+use Rattle.rules.specs.Buffer.{Written}
+use Rattle.rules.specs.Writer.{Draft}
+use Rattle.rules.specs.Sheet.{Row}
+use Rattle.rules.specs.Copy.{Answer}
+use Rattle.rules.specs.Burst.{Randomized, Opened}
+
+-- the values of a refusal at place p: k zeros behind the place
+abbrev pub refusedAt : ℕ → ℕ → List ℕ
+refusedAt p k = p ∷ replicate k 0
+
+-- a header: where its option run begins and how long it is come last
+abbrev pub headerTold : Outcome (Head × ℕ) → ℕ × List ℕ
+headerTold (bad n p) = (n, refusedAt p 9)
+headerTold (good (h, run)) = (0, 0 ∷ h .words ∷ h .flags ∷ h .id ∷ h .sequence ∷ h .size ∷ h .seconds ∷ h .nanos ∷ headerBytes ∷ run ∷ [])
+
+-- a step of the walk that stands at place i: the last value is where it then stands, and i unless a package is shown
+abbrev pub stepTold : ℕ → Outcome (Option PackageSpot) → ℕ × List ℕ
+stepTold i (bad n p) = (n, p ∷ 0 ∷ 0 ∷ 0 ∷ 0 ∷ 0 ∷ 0 ∷ 0 ∷ i ∷ [])
+stepTold i (good none) = (0, 0 ∷ 0 ∷ 0 ∷ 0 ∷ 0 ∷ 0 ∷ 0 ∷ 0 ∷ i ∷ [])
+stepTold i (good (some k)) = (0, 0 ∷ 1 ∷ k .id ∷ k .size ∷ k .status ∷ k .delta ∷ k .from ∷ (k .size - packageHeader) ∷ k .next ∷ [])
+
+-- a recording checked: messages and packages
+abbrev pub checkTold : Outcome (ℕ × ℕ) → ℕ × List ℕ
+checkTold (bad n p) = (n, refusedAt p 2)
+checkTold (good (messages, packages)) = (0, 0 ∷ messages ∷ packages ∷ [])
+
+-- what the writer is handed, as the rules' draft
+abbrev pub draft : ℕ → ℕ → ℕ → ℕ → ℕ → List ℕ → List ℕ → Draft
+draft f i q s n o p = record { flags = f; id = i; sequence = q; seconds = s; nanos = n; options = o; packages = p }
+
+-- a message written or cleaned: bytes
+abbrev pub writtenValues : Written → ℕ × List ℕ
+writtenValues w = (w .number, w .place ∷ w .bytes ∷ [])
+
+abbrev pub writtenTold : Written × List ℕ → ℕ × List ℕ × List ℕ
+writtenTold (w, buffer) = (writtenValues w .0, writtenValues w .1, buffer)
+
+-- a sheet: how many rows it has, and eight values for each row
+abbrev pub rowValues : Row → List ℕ
+rowValues r = r .firstMessage ∷ r .lastMessage ∷ r .firstPackage ∷ r .lastPackage ∷ r .startSeconds ∷ r .startNanos ∷ r .endSeconds ∷ r .endNanos ∷ []
+
+abbrev pub sheetTold : Outcome (List Row × ℕ) → ℕ × List ℕ
+sheetTold (bad n p) = (n, refusedAt p 257)
+sheetTold (good (rows, count)) = (0, 0 ∷ count ∷ join (map rowValues rows))
+
+-- a copy: bytes, messages and packages
+abbrev pub copyTold : Answer × List ℕ → ℕ × List ℕ × List ℕ
+copyTold (a, buffer) = (a .number, a .place ∷ a .bytes ∷ a .messages ∷ a .packages ∷ [], buffer)
+
+-- a buffer randomized
+abbrev pub randomizedTold : Randomized × List ℕ → ℕ × List ℕ × List ℕ
+randomizedTold (a, buffer) = (a .number, a .place ∷ [], buffer)
+
+-- a burst opened: codeblocks
+abbrev pub openedTold : Opened × List ℕ → ℕ × List ℕ × List ℕ
+openedTold (a, buffer) = (a .number, a .place ∷ a .blocks ∷ [], buffer)

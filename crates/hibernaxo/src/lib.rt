@@ -1,0 +1,274 @@
+// The exports for C, Rust and Python: a function for each entry point, over numbers, slices and arrays alone. Each returns the refusal
+// number, 0 for success, and stores place and values into a lent array on every call, the place first. The definitions ..Told say
+// what comes back; include/hibernaxo.h says it to a caller.
+use burst::Opened;
+use burst::Randomized;
+use compose::Record;
+use compose::Written;
+use message::Checked;
+use message::HeaderRead;
+use message::Mdid;
+use message::PackageRead;
+use refusal::Refusal;
+use release::Copied;
+use sheet::Row;
+use sheet::SheetAnswer;
+ghost use mathlib.Core.Path.{_≡_};
+ghost use mathlib.Core.List.{map};
+ghost use Prim.Native.Nat.{_+_, _*_, _<_};
+ghost use lib.Seq.{sets};
+ghost use Rattle.rules.specs.Bytes.{join};
+ghost use Rattle.rules.specs.Reading.{header, counted};
+ghost use Rattle.rules.specs.Walk.{packageAt};
+ghost use Rattle.rules.specs.Writer.{writer};
+ghost use Rattle.rules.specs.Clean.{cleaner};
+ghost use Rattle.rules.specs.Sheet.{sheetRows};
+ghost use Rattle.rules.specs.Copy.{copy};
+ghost use Rattle.rules.specs.Burst.{randomizer, opener};
+ghost use Rattle.refusal.specs.Numbers.{numberOf};
+ghost use Rattle.sheet.specs.Rows.{rowIn};
+ghost use Rattle.compose.specs.Told.{numbers};
+ghost use Rattle.hibernaxo.specs.Told.{headerTold, stepTold, checkTold, draft, writtenValues, writtenTold, rowValues, sheetTold, copyTold, randomizedTold, openedTold};
+
+// The number of a refusal.
+fn number_in(x: Refusal) -> u32
+    ensures { λ r. ⌜ r ≡ numberOf (x .why) ⌝ }
+{
+    let why = x.why;
+    refusal::number_of(why)
+}
+
+// A header alone: W, flags, message id, sequence number, length, time, and where its option run begins and how long it is.
+#[no_mangle]
+pub extern "C" fn hibernaxo_header(bytes: &[u8], values: &mut [u64; 10]) -> u32
+    ensures { λ r. ⌜ (r, now (values .exit)) ≡ headerTold (header (now (bytes .entry))) ⌝ }
+{
+    match message::read_header(bytes) {
+        HeaderRead::Header(h) => {
+            *values = [
+                0,
+                h.words as u64,
+                h.flags as u64,
+                h.id.0 as u64,
+                h.sequence as u64,
+                h.length as u64,
+                h.seconds as u64,
+                h.nanos as u64,
+                24,
+                h.run as u64,
+            ];
+            0
+        }
+        HeaderRead::Refused(x) => {
+            *values = [x.place as u64, 0, 0, 0, 0, 0, 0, 0, 0, 0];
+            number_in(x)
+        }
+    }
+}
+
+// A step of a package walk: a package with its numbers, where its data begin and how long they are, or the end; and the walk's next place.
+#[no_mangle]
+pub extern "C" fn hibernaxo_package(run: &[u8], at: usize, values: &mut [u64; 9]) -> u32
+    ensures { λ r. ⌜ (r, now (values .exit)) ≡ stepTold at (packageAt (now (run .entry)) at) ⌝ }
+{
+    let place = at as u64;
+    match walk::step_at(run, at) {
+        PackageRead::Package(k) => {
+            *values = [
+                0,
+                1,
+                k.id.0 as u64,
+                k.length as u64,
+                k.status as u64,
+                k.delta as u64,
+                k.from as u64,
+                k.length as u64 - 12,
+                k.next as u64,
+            ];
+            0
+        }
+        PackageRead::End => {
+            *values = [0, 0, 0, 0, 0, 0, 0, 0, place];
+            0
+        }
+        PackageRead::Refused(x) => {
+            *values = [x.place as u64, 0, 0, 0, 0, 0, 0, 0, place];
+            number_in(x)
+        }
+    }
+}
+
+// A recording checked: messages and packages.
+#[no_mangle]
+pub extern "C" fn hibernaxo_check(recording: &[u8], values: &mut [u64; 3]) -> u32
+    ensures { λ r. ⌜ (r, now (values .exit)) ≡ checkTold (counted (now (recording .entry))) ⌝ }
+{
+    match message::check(recording) {
+        Checked::Passed { messages, packages } => {
+            *values = [0, messages as u64, packages as u64];
+            0
+        }
+        Checked::Refused(x) => {
+            *values = [x.place as u64, 0, 0];
+            number_in(x)
+        }
+    }
+}
+
+// What the writer and the cleaner answered.
+fn put_written(a: Written, values: &mut [u64; 2]) -> u32
+    ensures { λ r. ⌜ (r, now (values .exit)) ≡ writtenValues (numbers a) ⌝ }
+{
+    match a {
+        Written::Done { bytes } => {
+            *values = [0, bytes as u64];
+            0
+        }
+        Written::Refused(x) => {
+            *values = [x.place as u64, 0];
+            number_in(x)
+        }
+    }
+}
+
+// One message written from its parts: bytes.
+#[no_mangle]
+pub extern "C" fn hibernaxo_write(
+    flags: u8,
+    message_id: u32,
+    sequence: u32,
+    seconds: u32,
+    nanoseconds: u32,
+    options: &[u8],
+    packages: &[u8],
+    out: &mut [u8],
+    values: &mut [u64; 2],
+) -> u32
+    ensures { λ r. ⌜ (r, now (values .exit), now (out .exit)) ≡ writtenTold (writer (draft flags «message_id» sequence seconds nanoseconds (now (options .entry)) (now (packages .entry))) (now (out .entry))) ⌝ }
+{
+    let record = Record {
+        flags,
+        id: Mdid(message_id),
+        sequence,
+        seconds,
+        nanos: nanoseconds,
+    };
+    let a = compose::write(record, options, packages, out);
+    put_written(a, values)
+}
+
+// The clean form of one message: bytes.
+#[no_mangle]
+pub extern "C" fn hibernaxo_clean(bytes: &[u8], out: &mut [u8], values: &mut [u64; 2]) -> u32
+    ensures { λ r. ⌜ (r, now (values .exit), now (out .exit)) ≡ writtenTold (cleaner (now (bytes .entry)) (now (out .entry))) ⌝ }
+{
+    let a = compose::clean(bytes, out);
+    put_written(a, values)
+}
+
+// The eight values of row i, behind the place and the number of rows.
+fn put_row(values: &mut [u64; 258], i: usize, row: Row)
+    requires { ⌜ i < 32 ⌝ }
+    ensures { λ _. ⌜ now (values .exit) ≡ sets (now (values .entry)) (2 + 8 * i) (rowValues (rowIn row)) ⌝ }
+{
+    let at = 2 + 8 * i;
+    let start = row.start;
+    let end = row.end;
+    values[at] = row.first_mdid.0 as u64;
+    values[at + 1] = row.last_mdid.0 as u64;
+    values[at + 2] = row.first_pdid.0 as u64;
+    values[at + 3] = row.last_pdid.0 as u64;
+    values[at + 4] = start.sec as u64;
+    values[at + 5] = start.ns as u64;
+    values[at + 6] = end.sec as u64;
+    values[at + 7] = end.ns as u64;
+}
+
+fn put_rows(values: &mut [u64; 258], rows: [Row; 32])
+    ensures { λ _. ⌜ now (values .exit) ≡ sets (now (values .entry)) 2 (join (map rowValues (map rowIn rows))) ⌝ }
+{
+    let mut i = 0;
+    while i < 32 {
+        let row = rows[i];
+        put_row(values, i, row);
+        i += 1;
+    }
+}
+
+// An order sheet: how many rows, and eight values for each of 32 rows.
+#[no_mangle]
+pub extern "C" fn hibernaxo_sheet(sheet: &[u8], values: &mut [u64; 258]) -> u32
+    ensures { λ r. ⌜ (r, now (values .exit)) ≡ sheetTold (sheetRows (now (sheet .entry))) ⌝ }
+{
+    let read = sheet::read_sheet(sheet);
+    let answer = read.answer;
+    *values = [0; 258];
+    match answer {
+        SheetAnswer::Good => {
+            let rows = read.rows;
+            values[1] = read.count as u64;
+            put_rows(values, rows);
+            0
+        }
+        SheetAnswer::Refused(x) => {
+            values[0] = x.place as u64;
+            number_in(x)
+        }
+    }
+}
+
+// The copy of a recording under a sheet: bytes, messages and packages.
+#[no_mangle]
+pub extern "C" fn hibernaxo_copy(
+    recording: &[u8],
+    sheet: &[u8],
+    out: &mut [u8],
+    values: &mut [u64; 4],
+) -> u32
+    ensures { λ r. ⌜ (r, now (values .exit), now (out .exit)) ≡ copyTold (copy (now (sheet .entry)) (now (recording .entry)) (now (out .entry))) ⌝ }
+{
+    match release::copy(recording, sheet, out) {
+        Copied::Written(t) => {
+            *values = [0, t.bytes as u64, t.messages as u64, t.packages as u64];
+            0
+        }
+        Copied::Refused(x) => {
+            *values = [x.place as u64, 0, 0, 0];
+            number_in(x)
+        }
+    }
+}
+
+// A buffer randomized.
+#[no_mangle]
+pub extern "C" fn hibernaxo_randomize(buf: &mut [u8], values: &mut [u64; 1]) -> u32
+    ensures { λ r. ⌜ (r, now (values .exit), now (buf .exit)) ≡ randomizedTold (randomizer (now (buf .entry))) ⌝ }
+{
+    match burst::randomize(buf) {
+        Randomized::Done => {
+            *values = [0];
+            0
+        }
+        Randomized::Refused(x) => {
+            *values = [x.place as u64];
+            number_in(x)
+        }
+    }
+}
+
+// A burst opened: codeblocks.
+#[no_mangle]
+pub extern "C" fn hibernaxo_open_burst(buf: &mut [u8], values: &mut [u64; 2]) -> u32
+    ensures { λ r. ⌜ (r, now (values .exit), now (buf .exit)) ≡ openedTold (opener (now (buf .entry))) ⌝ }
+{
+    match burst::open_burst(buf) {
+        Opened::Done { blocks } => {
+            *values = [0, blocks as u64];
+            0
+        }
+        Opened::Refused(x) => {
+            *values = [x.place as u64, 0];
+            number_in(x)
+        }
+    }
+}

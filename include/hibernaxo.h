@@ -1,0 +1,103 @@
+/* hibernaxo: reading, checking, writing and cleaning network recordings, order sheets, the release copy and bursts.
+ *
+ * Each function returns a refusal number, HIBERNAXO_OK for success, and stores its values on every call. values[0] is
+ * always the place of the refusal, a byte offset in the input named, or what the number says below; on success it is 0.
+ * On a refusal every other value is 0, and no byte of a lent buffer changes; only a walk's place comes back as it was
+ * handed in.
+ *
+ * A slice is a pointer and a length in bytes. Pointers are never null, even where the length is 0. A buffer that is
+ * written, values included, overlaps nothing else that the same call is handed. The functions keep no state and no
+ * pointer, and may run on several threads at a time.
+ */
+#ifndef HIBERNAXO_H
+#define HIBERNAXO_H
+
+#include <stddef.h>
+#include <stdint.h>
+
+#ifdef __cplusplus
+extern "C" {
+#endif
+
+/* The refusal numbers. Behind each, when it is given and what its place is. */
+enum hibernaxo_refusal {
+    HIBERNAXO_OK = 0,
+    HIBERNAXO_SHORT = 1,     /* fewer than 24 bytes at a message's start: the message */
+    HIBERNAXO_VERSION = 2,   /* the version is not 1: the message */
+    HIBERNAXO_TYPE = 3,      /* the type is not 0: the message */
+    HIBERNAXO_LENGTH = 4,    /* the length is below 24 + 4 W or no multiple of 4: the message */
+    HIBERNAXO_CUT = 5,       /* the length is above the bytes left: the message */
+    HIBERNAXO_TIME = 6,      /* more than 999,999,999 nanoseconds: the message */
+    HIBERNAXO_OPTION = 7,    /* the first option against the rules: the option */
+    HIBERNAXO_FRAGMENT = 8,  /* flag bits 5-4 are not 00: the message */
+    HIBERNAXO_STANDARD = 9,  /* flag bit 7 is 1 with no payload, or 0 with one: the message */
+    HIBERNAXO_PACKAGE = 10,  /* a package that its header or the bytes left do not allow: the package */
+    HIBERNAXO_ROW = 11,      /* a row against the rules: the row; a bad size of the sheet: the sheet's length */
+    HIBERNAXO_LARGE = 12,    /* an input above 65,536 bytes: 65536 */
+    HIBERNAXO_ROOM = 13,     /* the output buffer is too short: the bytes needed */
+    HIBERNAXO_MARKER = 14,   /* fewer than 8 bytes, or another marker: 0 */
+    HIBERNAXO_BLOCKS = 15    /* not 1 to 80 whole codeblocks: the burst's length */
+};
+
+/* How many values each function stores. */
+#define HIBERNAXO_HEADER_VALUES 10
+#define HIBERNAXO_PACKAGE_VALUES 9
+#define HIBERNAXO_CHECK_VALUES 3
+#define HIBERNAXO_WRITE_VALUES 2
+#define HIBERNAXO_CLEAN_VALUES 2
+#define HIBERNAXO_SHEET_VALUES 258
+#define HIBERNAXO_COPY_VALUES 4
+#define HIBERNAXO_RANDOMIZE_VALUES 1
+#define HIBERNAXO_OPEN_BURST_VALUES 2
+
+/* The most rows of a sheet, and how many values each row has. */
+#define HIBERNAXO_ROWS 32
+#define HIBERNAXO_ROW_VALUES 8
+
+/* Reads the header of the message at the start of bytes (refusals 12 and 1 to 7).
+ * values: [1] the option word count W, [2] flag bits 7 to 0, [3] message id, [4] sequence number, [5] length,
+ * [6] seconds, [7] nanoseconds, [8] where the option run begins in bytes, [9] how many bytes it has. */
+uint32_t hibernaxo_header(const uint8_t *bytes, size_t bytes_length, uint64_t values[HIBERNAXO_HEADER_VALUES]);
+
+/* One step of a package walk over run, from place at (refusals 12 and 10). A walk begins at place 0 of a payload.
+ * values: [1] 1 if a package is shown and 0 at the end, [2] package id, [3] L, which counts header and data,
+ * [4] status, [5] time delta in nanoseconds, [6] where its data begin in run, [7] how many bytes they are,
+ * [8] the walk's next place: behind the package and its padding if one is shown, otherwise at, on a refusal too. */
+uint32_t hibernaxo_package(const uint8_t *run, size_t run_length, size_t at, uint64_t values[HIBERNAXO_PACKAGE_VALUES]);
+
+/* Checks a recording (refusals 12 and 1 to 10). values: [1] messages, [2] packages. */
+uint32_t hibernaxo_check(const uint8_t *recording, size_t recording_length, uint64_t values[HIBERNAXO_CHECK_VALUES]);
+
+/* Writes one message into out (refusals 12, 6, 7, 10 and 13, places within the run named). Of flags, bits 6, 3, 2, 1
+ * and 0 count. options holds whole options, none of kind 0x00; packages is a run of packages, whose reserved bytes
+ * and padding are not looked at. values: [1] bytes written; bytes of out behind them stay. */
+uint32_t hibernaxo_write(uint8_t flags, uint32_t message_id, uint32_t sequence, uint32_t seconds, uint32_t nanoseconds,
+                         const uint8_t *options, size_t options_length, const uint8_t *packages, size_t packages_length,
+                         uint8_t *out, size_t out_length, uint64_t values[HIBERNAXO_WRITE_VALUES]);
+
+/* Writes the clean form of the first message of bytes into out (refusals 12, 1 to 10 and 13).
+ * values: [1] bytes written; bytes of out behind them stay. */
+uint32_t hibernaxo_clean(const uint8_t *bytes, size_t bytes_length, uint8_t *out, size_t out_length,
+                         uint64_t values[HIBERNAXO_CLEAN_VALUES]);
+
+/* Reads an order sheet (refusal 11). values: [1] how many rows it has; then from [2] on eight values for each of 32
+ * rows, zero behind the last: first and last message id, first and last package id, start seconds, start nanoseconds,
+ * end seconds, end nanoseconds. */
+uint32_t hibernaxo_sheet(const uint8_t *sheet, size_t sheet_length, uint64_t values[HIBERNAXO_SHEET_VALUES]);
+
+/* Writes the copy of a recording under an order sheet into out (refusals 11, 12, 1 to 10 and 13).
+ * values: [1] bytes, [2] messages, [3] packages written; bytes of out behind them stay. */
+uint32_t hibernaxo_copy(const uint8_t *recording, size_t recording_length, const uint8_t *sheet, size_t sheet_length,
+                        uint8_t *out, size_t out_length, uint64_t values[HIBERNAXO_COPY_VALUES]);
+
+/* Randomizes a buffer (refusal 12). A second call gives its bytes back. There is no value but the place. */
+uint32_t hibernaxo_randomize(uint8_t *buf, size_t buf_length, uint64_t values[HIBERNAXO_RANDOMIZE_VALUES]);
+
+/* Opens a burst: its codeblocks are randomized in buf (refusals 12, 14 and 15). values: [1] codeblocks. */
+uint32_t hibernaxo_open_burst(uint8_t *buf, size_t buf_length, uint64_t values[HIBERNAXO_OPEN_BURST_VALUES]);
+
+#ifdef __cplusplus
+}
+#endif
+
+#endif
