@@ -1,0 +1,141 @@
+//! The second program's answers in the form of the library's exports: the
+//! refusal number, and values that begin with the place.
+
+use crate::refusal::Refusal;
+use crate::render::Draft;
+use crate::{burst, copy, parse, render, sheet};
+
+#[derive(Clone, Copy, Debug, PartialEq, Eq)]
+pub struct Answer<const N: usize> {
+    pub number: u32,
+    pub values: [u64; N],
+}
+
+/// What an export gave: its answer, and whether it wrote beside its values.
+#[derive(Clone, Copy, Debug)]
+pub struct Given<const N: usize> {
+    pub answer: Answer<N>,
+    pub strayed: bool,
+}
+
+impl<const N: usize> Answer<N> {
+    /// Success: place 0, then these values, then zeros.
+    fn success(told: &[usize]) -> Self {
+        let mut values = [0; N];
+        for (value, number) in values[1..].iter_mut().zip(told) {
+            *value = *number as u64;
+        }
+        Answer { number: 0, values }
+    }
+
+    /// A refusal: its place, and zero in every other value.
+    fn refused(refusal: Refusal) -> Self {
+        let mut values = [0; N];
+        values[0] = refusal.place as u64;
+        Answer { number: refusal.number, values }
+    }
+}
+
+pub fn header(bytes: &[u8]) -> Answer<10> {
+    match parse::read_header(bytes) {
+        Ok(header) => Answer::success(&[
+            header.option_words,
+            header.flags as usize,
+            header.message_id as usize,
+            header.sequence as usize,
+            header.length,
+            header.seconds as usize,
+            header.nanoseconds as usize,
+            parse::HEADER_BYTES,
+            header.option_run.len(),
+        ]),
+        Err(refusal) => Answer::refused(refusal),
+    }
+}
+
+pub fn package(run: &[u8], at: usize) -> Answer<9> {
+    match parse::package_step(run, at) {
+        Ok(Some(package)) => Answer::success(&[
+            1,
+            package.id as usize,
+            package.length(),
+            package.status as usize,
+            package.delta as usize,
+            at + parse::PACKAGE_HEADER_BYTES,
+            package.data.len(),
+            at + package.padded(),
+        ]),
+        Ok(None) => Answer::success(&[0, 0, 0, 0, 0, 0, 0, at]),
+        Err(refusal) => {
+            // Only a walk comes back as it was handed in.
+            let mut answer = Answer::refused(refusal);
+            answer.values[8] = at as u64;
+            answer
+        }
+    }
+}
+
+pub fn check(recording: &[u8]) -> Answer<3> {
+    match parse::check(recording) {
+        Ok((messages, packages)) => Answer::success(&[messages, packages]),
+        Err(refusal) => Answer::refused(refusal),
+    }
+}
+
+pub fn write(draft: &Draft, out: &mut [u8]) -> Answer<2> {
+    match render::write(draft, out) {
+        Ok(bytes) => Answer::success(&[bytes]),
+        Err(refusal) => Answer::refused(refusal),
+    }
+}
+
+pub fn clean(bytes: &[u8], out: &mut [u8]) -> Answer<2> {
+    match render::clean(bytes, out) {
+        Ok(bytes) => Answer::success(&[bytes]),
+        Err(refusal) => Answer::refused(refusal),
+    }
+}
+
+pub fn sheet(bytes: &[u8]) -> Answer<258> {
+    match sheet::read_sheet(bytes) {
+        Ok(rows) => {
+            let mut told = vec![rows.len()];
+            for row in &rows {
+                let fields = [
+                    row.message_first,
+                    row.message_last,
+                    row.package_first,
+                    row.package_last,
+                    row.start_seconds,
+                    row.start_nanoseconds,
+                    row.end_seconds,
+                    row.end_nanoseconds,
+                ];
+                told.extend(fields.map(|field| field as usize));
+            }
+            Answer::success(&told)
+        }
+        Err(refusal) => Answer::refused(refusal),
+    }
+}
+
+pub fn copy(recording: &[u8], sheet: &[u8], out: &mut [u8]) -> Answer<4> {
+    match copy::copy(recording, sheet, out) {
+        Ok(copied) => Answer::success(&[copied.bytes, copied.messages, copied.packages]),
+        Err(refusal) => Answer::refused(refusal),
+    }
+}
+
+pub fn randomize(buffer: &mut [u8]) -> Answer<1> {
+    match burst::randomize(buffer) {
+        Ok(()) => Answer::success(&[]),
+        Err(refusal) => Answer::refused(refusal),
+    }
+}
+
+pub fn open_burst(buffer: &mut [u8]) -> Answer<2> {
+    match burst::open_burst(buffer) {
+        Ok(codeblocks) => Answer::success(&[codeblocks]),
+        Err(refusal) => Answer::refused(refusal),
+    }
+}

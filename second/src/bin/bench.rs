@@ -1,0 +1,345 @@
+//! Times the library's exports against the second program and against a plain
+//! copy of the same bytes. The three ways take turns; medians are shown.
+
+use second::burst::{CODEBLOCK_BYTES, MARKER_BYTES};
+use second::dice::Dice;
+use second::exports::raw;
+use second::generate::{lay_all, DirtyMessage, DirtyPackage};
+use second::orders::pack_sheet;
+use second::sheet::Row;
+use second::{burst, copy, parse, render};
+use std::hint::black_box;
+use std::process::ExitCode;
+use std::time::Instant;
+
+const SIZES: [usize; 3] = [4_096, 16_384, 65_536];
+const CODEBLOCKS: [usize; 3] = [5, 21, 80];
+/// The ways: the export, the second program, the plain copy.
+const WAYS: usize = 3;
+/// One sample takes about so many nanoseconds.
+const SAMPLE: f64 = 40_000.0;
+
+/// The package ids; a sheet grants the first alone.
+const GRANTED: u32 = 1;
+const WITHHELD: u32 = 2;
+
+/// What a recording is made of.
+#[derive(Clone, Copy)]
+enum Shape {
+    /// Messages of four packages with 40 to 120 data bytes.
+    Typical,
+    /// Messages of one package without data.
+    Small,
+}
+
+/// How the copy's recording and sheet are made; half of the packages are granted.
+#[derive(Clone, Copy)]
+enum Kind {
+    OneId,
+    ManyIds,
+    LastOf32Rows,
+    NewIdEach,
+}
+
+/// The medians of one scene, in nanoseconds.
+struct Line {
+    name: String,
+    bytes: usize,
+    medians: [f64; WAYS],
+}
+
+fn main() -> ExitCode {
+    let words: Vec<String> = std::env::args().skip(1).collect();
+    let asked = match words.as_slice() {
+        [] => Some(401),
+        [word, number] if word == "--repetitions" => number.parse().ok().filter(|&n| n > 0),
+        _ => None,
+    };
+    let Some(repetitions) = asked else {
+        eprintln!("usage: bench [--repetitions N]");
+        return ExitCode::from(2);
+    };
+    println!("medians of {repetitions} samples; the three ways take turns");
+    println!(
+        "{:<40}{:>7}{:>11}{:>11}{:>11}{:>15}{:>15}",
+        "", "bytes", "export ns", "second ns", "memcpy ns", "export/second", "export/memcpy"
+    );
+    let mut copies = Vec::new();
+    for shape in [Shape::Typical, Shape::Small] {
+        for size in SIZES {
+            show(&time_check(shape, size, repetitions));
+        }
+        for size in SIZES {
+            show(&time_clean(shape, size, repetitions));
+        }
+        for kind in [Kind::OneId, Kind::ManyIds, Kind::LastOf32Rows, Kind::NewIdEach] {
+            let lines = SIZES.map(|size| time_copy(shape, kind, size, repetitions));
+            lines.iter().for_each(show);
+            copies.push(lines);
+        }
+    }
+    for codeblocks in CODEBLOCKS {
+        show(&time_open_burst(codeblocks, repetitions));
+    }
+    println!("\ncost per byte at 64 KiB over that at 4 KiB");
+    println!("{:<40}{:>11}{:>11}", "", "export", "second");
+    for [least, _, most] in &copies {
+        let (export, second) = (growth(least, most, 0), growth(least, most, 1));
+        println!("{:<40}{export:>11.2}{second:>11.2}", least.name);
+    }
+    ExitCode::SUCCESS
+}
+
+fn show(line: &Line) {
+    let [export, second, memcpy] = line.medians;
+    println!(
+        "{:<40}{:>7}{export:>11.0}{second:>11.0}{memcpy:>11.0}{:>15.2}{:>15.2}",
+        line.name,
+        line.bytes,
+        export / second,
+        export / memcpy
+    );
+}
+
+fn growth(least: &Line, most: &Line, way: usize) -> f64 {
+    let per_byte = |line: &Line| line.medians[way] / line.bytes as f64;
+    per_byte(most) / per_byte(least)
+}
+
+/// Times so many calls and gives the nanoseconds of one.
+fn sample(way: &mut dyn FnMut(), calls: usize) -> f64 {
+    let start = Instant::now();
+    for _ in 0..calls {
+        way();
+    }
+    start.elapsed().as_nanos() as f64 / calls as f64
+}
+
+/// Times the ways in turn and gives the median of each.
+fn medians(repetitions: usize, mut ways: [&mut dyn FnMut(); WAYS]) -> [f64; WAYS] {
+    let calls = ways.each_mut().map(|way| {
+        sample(way, 3);
+        ((SAMPLE / sample(way, 3).max(1.0)) as usize).max(1)
+    });
+    let mut samples: [Vec<f64>; WAYS] = Default::default();
+    for turn in 0..repetitions {
+        for step in 0..WAYS {
+            // No way is always the first.
+            let way = (turn + step) % WAYS;
+            samples[way].push(sample(ways[way], calls[way]));
+        }
+    }
+    samples.map(|mut times| {
+        times.sort_by(f64::total_cmp);
+        times[times.len() / 2]
+    })
+}
+
+/// The plain copy of the same bytes.
+fn memcpy(from: &[u8], to: &mut [u8]) {
+    to[..from.len()].copy_from_slice(black_box(from));
+    black_box(to);
+}
+
+fn shape_name(shape: Shape) -> &'static str {
+    match shape {
+        Shape::Typical => "typical",
+        Shape::Small => "small",
+    }
+}
+
+fn package(dice: &mut Dice, shape: Shape, id: u32) -> DirtyPackage {
+    let data = match shape {
+        Shape::Typical => dice.some_bytes(40, 120),
+        Shape::Small => Vec::new(),
+    };
+    let padding = [dice.byte(), dice.byte(), dice.byte()];
+    DirtyPackage { id, status: dice.byte(), delta: 1_000, data, reserved: dice.byte(), padding }
+}
+
+fn message(dice: &mut Dice, message_id: u32, packages: Vec<DirtyPackage>) -> DirtyMessage {
+    DirtyMessage {
+        reserved_nibble: dice.byte() & 15,
+        reserved_flags: dice.byte(),
+        flags: dice.byte() & 0x4F,
+        message_id,
+        sequence: dice.word(),
+        seconds: 100,
+        nanoseconds: 0,
+        options: Vec::new(),
+        behind_options: Vec::new(),
+        packages,
+        tail: Vec::new(),
+    }
+}
+
+/// A recording of at most `size` bytes; every second package is granted.
+fn recording(shape: Shape, kind: Kind, size: usize) -> Vec<u8> {
+    let dice = &mut Dice::new(7, size as u64);
+    let mut messages = Vec::new();
+    let mut length = 0;
+    loop {
+        let number = messages.len() as u32;
+        let message_id = match kind {
+            Kind::OneId | Kind::LastOf32Rows => 7,
+            Kind::ManyIds => number * 5 % 16,
+            Kind::NewIdEach => number,
+        };
+        let ids = match shape {
+            Shape::Typical => vec![GRANTED, WITHHELD, GRANTED, WITHHELD],
+            Shape::Small => vec![if number.is_multiple_of(2) { GRANTED } else { WITHHELD }],
+        };
+        let packages = ids.into_iter().map(|id| package(dice, shape, id)).collect();
+        let next = message(dice, message_id, packages);
+        length += next.laid().len();
+        if length > size {
+            return lay_all(&messages).0;
+        }
+        messages.push(next);
+    }
+}
+
+/// A sheet that grants the packages of one id, of every message.
+fn sheet(kind: Kind) -> Vec<u8> {
+    let row = |id: u32| Row {
+        message_last: u32::MAX,
+        package_first: id,
+        package_last: id,
+        end_seconds: 200,
+        ..Row::default()
+    };
+    let mut rows = Vec::new();
+    if let Kind::LastOf32Rows = kind {
+        rows.extend((100..131).map(row));
+    }
+    rows.push(row(GRANTED));
+    pack_sheet(&rows)
+}
+
+fn time_check(shape: Shape, size: usize, repetitions: usize) -> Line {
+    let recording = recording(shape, Kind::OneId, size);
+    let length = recording.len();
+    let mut values = [0; 3];
+    let mut target = vec![0; length];
+    let mut export = || {
+        let bytes = black_box(&recording);
+        // The pointer and the length are those of the recording.
+        let number = unsafe { raw::hibernaxo_check(bytes.as_ptr(), length, values.as_mut_ptr()) };
+        assert_eq!(black_box(number), 0);
+    };
+    let mut second = || {
+        assert!(black_box(parse::check(black_box(&recording))).is_ok());
+    };
+    let mut plain = || memcpy(&recording, &mut target);
+    let medians = medians(repetitions, [&mut export, &mut second, &mut plain]);
+    Line { name: format!("check, {}", shape_name(shape)), bytes: length, medians }
+}
+
+/// One message of nearly `size` bytes.
+fn long_message(shape: Shape, size: usize) -> Vec<u8> {
+    let dice = &mut Dice::new(8, size as u64);
+    let mut packages = Vec::new();
+    let mut length = 24;
+    loop {
+        let next = package(dice, shape, GRANTED);
+        length += 12 + next.data.len().div_ceil(4) * 4;
+        if length > size {
+            return message(dice, 7, packages).laid();
+        }
+        packages.push(next);
+    }
+}
+
+fn time_clean(shape: Shape, size: usize, repetitions: usize) -> Line {
+    let input = long_message(shape, size);
+    let length = input.len();
+    let mut values = [0; 2];
+    let mut outs = [vec![0; length], vec![0; length], vec![0; length]];
+    let [export_out, second_out, target] = &mut outs;
+    let mut export = || {
+        let bytes = black_box(&input);
+        // The pointers and the lengths are those of the input and the buffer.
+        let number = unsafe {
+            raw::hibernaxo_clean(
+                bytes.as_ptr(),
+                length,
+                export_out.as_mut_ptr(),
+                length,
+                values.as_mut_ptr(),
+            )
+        };
+        assert_eq!(black_box(number), 0);
+        black_box(&mut *export_out);
+    };
+    let mut second = || {
+        assert!(render::clean(black_box(&input), second_out).is_ok());
+        black_box(&mut *second_out);
+    };
+    let mut plain = || memcpy(&input, target);
+    let medians = medians(repetitions, [&mut export, &mut second, &mut plain]);
+    assert!(outs[0] == outs[1], "the two clean forms differ");
+    Line { name: format!("clean, {}", shape_name(shape)), bytes: length, medians }
+}
+
+fn time_copy(shape: Shape, kind: Kind, size: usize, repetitions: usize) -> Line {
+    let recording = recording(shape, kind, size);
+    let sheet = sheet(kind);
+    let length = recording.len();
+    let mut values = [0; 4];
+    let mut outs = [vec![0; length], vec![0; length], vec![0; length]];
+    let [export_out, second_out, target] = &mut outs;
+    let mut export = || {
+        let (bytes, order) = (black_box(&recording), black_box(&sheet));
+        // The pointers and the lengths are those of the inputs and the buffer.
+        let number = unsafe {
+            raw::hibernaxo_copy(
+                bytes.as_ptr(),
+                length,
+                order.as_ptr(),
+                order.len(),
+                export_out.as_mut_ptr(),
+                length,
+                values.as_mut_ptr(),
+            )
+        };
+        assert_eq!(black_box(number), 0);
+        black_box(&mut *export_out);
+    };
+    let mut second = || {
+        assert!(copy::copy(black_box(&recording), black_box(&sheet), second_out).is_ok());
+        black_box(&mut *second_out);
+    };
+    let mut plain = || memcpy(&recording, target);
+    let medians = medians(repetitions, [&mut export, &mut second, &mut plain]);
+    assert!(outs[0] == outs[1], "the two copies differ");
+    let kind_name = match kind {
+        Kind::OneId => "one id",
+        Kind::ManyIds => "16 ids",
+        Kind::LastOf32Rows => "last of 32 rows",
+        Kind::NewIdEach => "each message a new id",
+    };
+    Line { name: format!("copy, {}, {kind_name}", shape_name(shape)), bytes: length, medians }
+}
+
+fn time_open_burst(codeblocks: usize, repetitions: usize) -> Line {
+    let mut burst = MARKER_BYTES.to_vec();
+    burst.extend(Dice::new(9, codeblocks as u64).bytes(CODEBLOCK_BYTES * codeblocks));
+    let length = burst.len();
+    let mut values = [0; 2];
+    // Opening twice gives the burst back, so a burst is opened again and again.
+    let mut outs = [burst.clone(), burst.clone(), burst.clone()];
+    let [export_burst, second_burst, target] = &mut outs;
+    let mut export = || {
+        let bytes = black_box(&mut *export_burst);
+        // The pointer and the length are those of the burst.
+        let number =
+            unsafe { raw::hibernaxo_open_burst(bytes.as_mut_ptr(), length, values.as_mut_ptr()) };
+        assert_eq!(black_box(number), 0);
+    };
+    let mut second = || {
+        assert!(burst::open_burst(black_box(&mut *second_burst)).is_ok());
+    };
+    let mut plain = || memcpy(&burst, target);
+    let medians = medians(repetitions, [&mut export, &mut second, &mut plain]);
+    Line { name: "open burst".to_string(), bytes: length, medians }
+}

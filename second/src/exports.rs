@@ -1,0 +1,138 @@
+//! The library's exports and safe wrappers for them.
+//!
+//! A wrapper takes every slice as one that may be written, so that a library
+//! that writes to its input is caught and not undefined. The values are filled
+//! with junk before a call, and stand between two words that must stay.
+
+use crate::answers::{Answer, Given};
+use crate::render::Draft;
+
+/// The functions as the library hands them out.
+pub mod raw {
+    extern "C" {
+        pub fn hibernaxo_header(bytes: *const u8, len: usize, values: *mut u64) -> u32;
+        pub fn hibernaxo_package(run: *const u8, len: usize, at: usize, values: *mut u64) -> u32;
+        pub fn hibernaxo_check(recording: *const u8, len: usize, values: *mut u64) -> u32;
+        pub fn hibernaxo_write(
+            flags: u8,
+            message_id: u32,
+            sequence: u32,
+            seconds: u32,
+            nanoseconds: u32,
+            options: *const u8,
+            options_len: usize,
+            packages: *const u8,
+            packages_len: usize,
+            out: *mut u8,
+            out_len: usize,
+            values: *mut u64,
+        ) -> u32;
+        pub fn hibernaxo_clean(
+            bytes: *const u8,
+            len: usize,
+            out: *mut u8,
+            out_len: usize,
+            values: *mut u64,
+        ) -> u32;
+        pub fn hibernaxo_sheet(sheet: *const u8, len: usize, values: *mut u64) -> u32;
+        pub fn hibernaxo_copy(
+            recording: *const u8,
+            recording_len: usize,
+            sheet: *const u8,
+            sheet_len: usize,
+            out: *mut u8,
+            out_len: usize,
+            values: *mut u64,
+        ) -> u32;
+        pub fn hibernaxo_randomize(buf: *mut u8, len: usize, values: *mut u64) -> u32;
+        pub fn hibernaxo_open_burst(buf: *mut u8, len: usize, values: *mut u64) -> u32;
+    }
+}
+
+const JUNK: u64 = 0xA5C3_5A3C_0FF0_9669;
+
+#[repr(C)]
+struct Values<const N: usize> {
+    before: u64,
+    values: [u64; N],
+    behind: u64,
+}
+
+fn call<const N: usize>(export: impl FnOnce(*mut u64) -> u32) -> Given<N> {
+    let mut values = Values { before: JUNK, values: [JUNK; N], behind: JUNK };
+    // The pointer reaches over the whole struct, so that a stray word is seen.
+    let whole: *mut Values<N> = &mut values;
+    let first = whole.cast::<u64>().wrapping_add(1);
+    let number = export(first);
+    Given {
+        answer: Answer { number, values: values.values },
+        strayed: values.before != JUNK || values.behind != JUNK,
+    }
+}
+
+// In each call below the pointers and lengths are those of a live slice, and
+// the values have the length that the export asks for.
+
+pub fn header(bytes: &mut [u8]) -> Given<10> {
+    call(|values| unsafe { raw::hibernaxo_header(bytes.as_mut_ptr(), bytes.len(), values) })
+}
+
+pub fn package(run: &mut [u8], at: usize) -> Given<9> {
+    call(|values| unsafe { raw::hibernaxo_package(run.as_mut_ptr(), run.len(), at, values) })
+}
+
+pub fn check(recording: &mut [u8]) -> Given<3> {
+    call(|values| unsafe { raw::hibernaxo_check(recording.as_mut_ptr(), recording.len(), values) })
+}
+
+/// The draft gives the numbers; its two runs come in as slices of their own.
+pub fn write(draft: &Draft, options: &mut [u8], packages: &mut [u8], out: &mut [u8]) -> Given<2> {
+    call(|values| unsafe {
+        raw::hibernaxo_write(
+            draft.flags,
+            draft.message_id,
+            draft.sequence,
+            draft.seconds,
+            draft.nanoseconds,
+            options.as_mut_ptr(),
+            options.len(),
+            packages.as_mut_ptr(),
+            packages.len(),
+            out.as_mut_ptr(),
+            out.len(),
+            values,
+        )
+    })
+}
+
+pub fn clean(bytes: &mut [u8], out: &mut [u8]) -> Given<2> {
+    call(|values| unsafe {
+        raw::hibernaxo_clean(bytes.as_mut_ptr(), bytes.len(), out.as_mut_ptr(), out.len(), values)
+    })
+}
+
+pub fn sheet(sheet: &mut [u8]) -> Given<258> {
+    call(|values| unsafe { raw::hibernaxo_sheet(sheet.as_mut_ptr(), sheet.len(), values) })
+}
+
+pub fn copy(recording: &mut [u8], sheet: &mut [u8], out: &mut [u8]) -> Given<4> {
+    call(|values| unsafe {
+        raw::hibernaxo_copy(
+            recording.as_mut_ptr(),
+            recording.len(),
+            sheet.as_mut_ptr(),
+            sheet.len(),
+            out.as_mut_ptr(),
+            out.len(),
+            values,
+        )
+    })
+}
+
+pub fn randomize(buffer: &mut [u8]) -> Given<1> {
+    call(|values| unsafe { raw::hibernaxo_randomize(buffer.as_mut_ptr(), buffer.len(), values) })
+}
+
+pub fn open_burst(buffer: &mut [u8]) -> Given<2> {
+    call(|values| unsafe { raw::hibernaxo_open_burst(buffer.as_mut_ptr(), buffer.len(), values) })
+}

@@ -1,0 +1,43 @@
+//! An independent second program for the rules of Hibernaxo.
+//!
+//! It is written from the rules' text alone and shares no code with the
+//! library that it is compared with. It parses into records and renders from
+//! records; it is plain rather than fast.
+
+// The rules, one module for each part of the paper.
+pub mod burst;
+pub mod copy;
+pub mod paper;
+pub mod parse;
+pub mod refusal;
+pub mod render;
+pub mod sheet;
+pub mod text;
+
+// The generator of inputs, good and bad.
+pub mod damage;
+pub mod dice;
+pub mod drafts;
+pub mod generate;
+pub mod orders;
+
+// The comparison with the library's exports.
+pub mod answers;
+#[cfg(feature = "exports")]
+pub mod cases;
+#[cfg(feature = "exports")]
+pub mod demand;
+#[cfg(feature = "exports")]
+pub mod exports;
+pub mod judge;
+pub mod lent;
+#[cfg(feature = "exports")]
+pub mod limits;
+pub mod programs;
+#[cfg(feature = "exports")]
+pub mod round_trips;
+#[cfg(feature = "exports")]
+pub mod side_by_side;
+
+#[cfg(test)]
+mod tests;

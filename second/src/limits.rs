@@ -1,0 +1,525 @@
+//! The limits: fixed inputs at and just above each limit of the paper, and the
+//! paper's own numbers. They are part of every run.
+
+use crate::burst::{CODEBLOCK_BYTES, MARKER_BYTES};
+use crate::damage::with_faults;
+use crate::demand::{changed, withheld, CHANGED, WITHHELD};
+use crate::dice::Dice;
+use crate::drafts::{draft_of, OwnDraft};
+use crate::generate::*;
+use crate::judge::Judge;
+use crate::orders::*;
+use crate::paper::{m_with, m_with_options, message_m, row_r};
+use crate::round_trips::{trip, TRIPS};
+use crate::sheet::Row;
+use crate::side_by_side;
+
+type Part = fn(&mut Limits);
+
+/// The parts in their order.
+const PARTS: [(&str, Part); 13] = [
+    ("the paper's numbers", paper_numbers),
+    ("sizes", sizes),
+    ("faults", faults),
+    ("options", options),
+    ("packages", packages),
+    ("writer", writer),
+    ("sheets", sheets),
+    ("grants", grants),
+    ("the copy's order", copy_order),
+    ("sequence numbers", sequence_numbers),
+    ("bursts", bursts),
+    ("demand 3", demand_3),
+    ("round trips", round_trips),
+];
+
+/// Runs the limits one after the other, each as a case of its own.
+struct Limits<'a> {
+    judge: &'a mut Judge,
+    dice: Dice,
+    seed: u64,
+    part: &'static str,
+    number: u64,
+}
+
+impl Limits<'_> {
+    /// Begins the next limit.
+    fn begin(&mut self) {
+        self.number += 1;
+        let (part, number, seed) = (self.part, self.number, self.seed);
+        self.judge.begin(format!("limit {number} ({part}) of seed {seed}"));
+    }
+
+    /// Begins the next limit, for this export.
+    fn next(&mut self, export: &str) {
+        self.begin();
+        self.judge.kind(&format!("limits: {export}"));
+    }
+
+    fn header(&mut self, bytes: &[u8]) {
+        self.next("header");
+        side_by_side::header(self.judge, &mut self.dice, bytes);
+    }
+
+    fn package(&mut self, run: &[u8], at: usize) {
+        self.next("package");
+        side_by_side::package(self.judge, &mut self.dice, run, at);
+    }
+
+    fn check(&mut self, recording: &[u8]) {
+        self.next("check");
+        side_by_side::check(self.judge, &mut self.dice, recording);
+    }
+
+    fn write(&mut self, draft: &OwnDraft, room: usize) {
+        self.next("write");
+        side_by_side::write(self.judge, &mut self.dice, draft, room);
+    }
+
+    fn clean(&mut self, bytes: &[u8], room: usize) {
+        self.next("clean");
+        side_by_side::clean(self.judge, &mut self.dice, bytes, room);
+    }
+
+    fn sheet(&mut self, sheet: &[u8]) {
+        self.next("sheet");
+        side_by_side::sheet(self.judge, &mut self.dice, sheet);
+    }
+
+    fn copy(&mut self, recording: &[u8], sheet: &[u8], room: usize) {
+        self.next("copy");
+        side_by_side::copy(self.judge, &mut self.dice, recording, sheet, room);
+    }
+
+    fn randomize(&mut self, bytes: &[u8]) {
+        self.next("randomize");
+        side_by_side::randomize(self.judge, &mut self.dice, bytes);
+    }
+
+    fn open_burst(&mut self, bytes: &[u8]) {
+        self.next("open_burst");
+        side_by_side::open_burst(self.judge, &mut self.dice, bytes);
+    }
+
+    /// One message in every function that reads a message.
+    fn message(&mut self, bytes: &[u8]) {
+        self.header(bytes);
+        self.check(bytes);
+        for room in [bytes.len(), 0, 65_536] {
+            self.clean(bytes, room);
+            self.copy(bytes, &row_r(), room);
+        }
+    }
+}
+
+pub fn run(judge: &mut Judge, seed: u64) {
+    // The dice only fill what has no part in a limit.
+    let dice = Dice::new(seed, u64::MAX);
+    let mut limits = Limits { judge, dice, seed, part: "", number: 0 };
+    for (name, part) in PARTS {
+        limits.part = name;
+        part(&mut limits);
+    }
+}
+
+fn paper_numbers(limits: &mut Limits) {
+    let (m, r) = (message_m(), row_r());
+    limits.copy(&[], &r, 0);
+    for length in [0, 1, 23, 24, 25, 40, 55, 56] {
+        limits.message(&m[..length]);
+    }
+    limits.message(&m_with(0, &[0x20]));
+    let mut short_length = m_with(0, &[0x11]);
+    short_length[15] = 0x18;
+    limits.message(&short_length);
+    limits.message(&m_with(15, &[0x3C]));
+    limits.message(&m_with(20, &[0x3B, 0x9A, 0xCA, 0x00]));
+    limits.message(&m_with(20, &[0x3B, 0x9A, 0xC9, 0xFF]));
+    limits.message(&m_with_options(&[0x87, 6, 0, 0, 0, 1, 0, 0xFF]));
+    limits.message(&m_with_options(&[0x87, 5, 0, 0, 0, 1, 0, 0xFF]));
+    for length in [0, 11, 12, 15, 16, 17, 31, 32, 33, 255] {
+        limits.message(&m_with(29, &[length]));
+    }
+    for room in 38..=42 {
+        limits.copy(&m, &r, room);
+    }
+    for flags in 0..=255 {
+        limits.message(&m_with(3, &[flags]));
+    }
+    for end in [9, 10] {
+        let row = Row { end_seconds: 100, end_nanoseconds: end, ..package_2_of_m() };
+        limits.copy(&m, &pack_row(&row, 0), 56);
+    }
+    limits.open_burst(&MARKER_BYTES);
+}
+
+/// A row for package 2 of M, from 100 s to 101 s.
+fn package_2_of_m() -> Row {
+    Row {
+        message_first: 7,
+        message_last: 7,
+        package_first: 2,
+        package_last: 2,
+        start_seconds: 100,
+        end_seconds: 101,
+        ..Row::default()
+    }
+}
+
+/// Whole recordings at and just above 65,536 bytes.
+fn sizes(limits: &mut Limits) {
+    let world = World::new(&mut limits.dice);
+    for style in [Style::Mixed, Style::OnePackageEach, Style::ManyIds, Style::FewLarge] {
+        for size in [24, 28, 36, 65_532, 65_536, 65_540] {
+            let messages = messages_of_size(&mut limits.dice, &world, size, style);
+            let mut bytes = lay_all(&messages).0;
+            let all = pack_sheet(&[everything()]);
+            limits.check(&bytes);
+            limits.copy(&bytes, &all, bytes.len());
+            if size == 65_536 {
+                bytes.push(0);
+                limits.check(&bytes);
+                limits.copy(&bytes, &all, bytes.len());
+                limits.copy(&bytes, &[], 0);
+            }
+        }
+    }
+    for size in [24, 28, 32, 36, 65_532, 65_536] {
+        let message = message_of_size(&mut limits.dice, &world, size).laid();
+        limits.message(&message);
+        limits.clean(&message, size - 1);
+        limits.clean(&message, size + 1);
+    }
+    // What follows the first message counts for LARGE alone.
+    for behind in [1, 65_479, 65_480, 65_481] {
+        let mut bytes = message_m();
+        bytes.resize(56 + behind, 0xEE);
+        limits.header(&bytes);
+        limits.clean(&bytes, 56);
+    }
+    for size in [65_537, 65_540, 100_000] {
+        limits.header(&vec![0; size]);
+        limits.check(&vec![0; size]);
+        limits.clean(&vec![0; size], 10);
+    }
+    // A buffer may be longer than any input.
+    limits.clean(&message_m(), 70_000);
+    limits.copy(&message_m(), &row_r(), 70_000);
+}
+
+/// Each pair of faults in one message, and in two messages both ways round.
+fn faults(limits: &mut Limits) {
+    for first in 1..=10 {
+        for second in 1..=10 {
+            let world = World::new(&mut limits.dice);
+            let mut same = Vec::new();
+            for _ in 0..3 {
+                same.push(message(&mut limits.dice, &world, 2));
+            }
+            let mut apart = same.clone();
+            let bytes = with_faults(&mut limits.dice, &mut same, &[(0, first), (0, second)]);
+            limits.header(&bytes);
+            limits.clean(&bytes, 500);
+            limits.check(&bytes);
+            let bytes = with_faults(&mut limits.dice, &mut apart, &[(0, first), (2, second)]);
+            limits.check(&bytes);
+            limits.copy(&bytes, &pack_sheet(&[everything()]), bytes.len());
+        }
+    }
+    // A length whose sum with the place is 0 or small in 32 bits.
+    for length in [0xFFFF_FFFC_u32, 0xFFFF_FFC8, 0xFFFF_FFCC, 0x8000_0000, 60, 56, 52] {
+        let bytes = [message_m(), m_with(12, &length.to_be_bytes())].concat();
+        limits.check(&bytes);
+        limits.copy(&bytes, &row_r(), 100);
+    }
+}
+
+/// Every kind of option with every length, at the end of its words and inside.
+fn options(limits: &mut Limits) {
+    for kind in [0x01, 0x7F, 0x80, 0x81, 0x82, 0x83, 0x84, 0x85, 0x86, 0x87, 0x88, 0xFF] {
+        for length in [0, 1, 2, 3, 5, 6, 7, 17, 18, 19, 31, 32, 33, 59, 60, 61, 64, 255] {
+            let mut bytes = vec![kind, length];
+            bytes.resize(60, 0);
+            limits.header(&m_with_options(&bytes));
+            bytes.truncate((usize::from(length) / 4 * 4).clamp(4, 60));
+            limits.header(&m_with_options(&bytes));
+        }
+    }
+    // The option bytes of every length from none to 15 words, of one-byte kinds.
+    for words in 0..=15 {
+        limits.message(&m_with_options(&vec![1; 4 * words]));
+        let mut last = vec![0x7F; 4 * words];
+        if let Some(byte) = last.last_mut() {
+            *byte = 0x80;
+        }
+        limits.message(&m_with_options(&last));
+    }
+    // Zero ends the options at every place; what follows it is not read.
+    for at in 0..12 {
+        let mut bytes = vec![0xFF; 12];
+        bytes[..at].fill(2);
+        bytes[at] = 0;
+        limits.message(&m_with_options(&bytes));
+    }
+}
+
+/// Steps of a walk at the greatest sizes and at places of every sort.
+fn packages(limits: &mut Limits) {
+    for length in [0, 11, 12, 13, 65_531, 65_532, 65_533, 65_534, 65_535_u16] {
+        for size in [65_532, 65_533, 65_535, 65_536, 65_537] {
+            let mut run = vec![0xC3; size];
+            run[4..6].copy_from_slice(&length.to_be_bytes());
+            for at in [0, 4, 65_523, 65_524, 65_525, 65_535, 65_536, 65_537, usize::MAX] {
+                limits.package(&run, at);
+            }
+        }
+    }
+    let payload = &message_m()[24..];
+    for at in 0..=34 {
+        limits.package(payload, at);
+        limits.package(&payload[..payload.len() - 1], at);
+        // The same package, at a place of every sort.
+        limits.package(&[&vec![0xEE; at], payload].concat(), at);
+    }
+    for length in 0..=16 {
+        let mut run = [0; 16];
+        run[5] = length;
+        for size in [11, 12, 13, 15, 16] {
+            limits.package(&run[..size], 0);
+        }
+    }
+    limits.package(&[], 0);
+    limits.package(&[], 1);
+}
+
+fn writer(limits: &mut Limits) {
+    let world = World::new(&mut limits.dice);
+    let one = message(&mut limits.dice, &world, 2);
+    let mut draft = draft_of(&mut limits.dice, &one);
+    draft.options.clear();
+    let size = 24 + draft.packages.len();
+    for room in [0, size - 1, size, size + 1, size + 40, 70_000] {
+        limits.write(&draft, room);
+    }
+    for flags in 0..=255 {
+        limits.write(&OwnDraft { flags, ..draft.clone() }, size);
+        limits.write(&OwnDraft { flags, packages: Vec::new(), ..draft.clone() }, 24);
+    }
+    for nanoseconds in [0, 999_999_999, 1_000_000_000, u32::MAX] {
+        // TIME comes before OPTION and PACKAGE, LARGE before TIME.
+        limits.write(&OwnDraft { nanoseconds, ..draft.clone() }, size);
+        limits.write(&OwnDraft { nanoseconds, options: vec![0], ..draft.clone() }, size);
+        limits.write(&OwnDraft { nanoseconds, packages: vec![0], ..draft.clone() }, size);
+        limits.write(&OwnDraft { nanoseconds, packages: vec![0; 65_513], ..draft.clone() }, 0);
+    }
+    for length in 56..=70 {
+        for fill in [0x01, 0x00, 0x80] {
+            let options = vec![fill; length];
+            for room in [0, size, size + 64] {
+                limits.write(&OwnDraft { options: options.clone(), ..draft.clone() }, room);
+            }
+        }
+    }
+    for length in 65_505..=65_540 {
+        limits.write(
+            &OwnDraft { options: vec![1; length], packages: Vec::new(), ..draft.clone() },
+            9,
+        );
+        limits.write(&OwnDraft { packages: vec![0; length], ..draft.clone() }, 9);
+    }
+    for options in
+        [&[0x80_u8, 4, 0][..], &[0x80, 3, 0], &[1, 0], &[0], &[0x87, 6, 0, 0, 0, 0], &[0x80]]
+    {
+        limits.write(&OwnDraft { options: options.to_vec(), ..draft.clone() }, size + 8);
+    }
+    longest_writes(limits, &draft);
+}
+
+/// Messages of exactly 65,536 bytes, with and without options.
+fn longest_writes(limits: &mut Limits, draft: &OwnDraft) {
+    for options in [0, 1, 4, 57, 60] {
+        let payload: usize = 65_512 - 4 * usize::div_ceil(options, 4);
+        for odd in 0..4 {
+            let mut packages = vec![0x5A; payload];
+            packages[4..6].copy_from_slice(&((payload - odd) as u16).to_be_bytes());
+            let draft = OwnDraft { options: vec![0x11; options], packages, ..draft.clone() };
+            for room in [65_535, 65_536, 65_537] {
+                limits.write(&draft, room);
+            }
+            let mut longer = draft.clone();
+            longer.packages.push(0);
+            limits.write(&longer, 65_540);
+        }
+    }
+}
+
+/// Sheets of every size, and every kind of bad row at every index.
+fn sheets(limits: &mut Limits) {
+    for length in (0..=70).chain([992, 1_023, 1_024, 1_025, 1_055, 1_056, 2_048, 65_537, 100_000]) {
+        limits.sheet(&vec![0; length]);
+        limits.copy(&message_m(), &vec![0; length], 56);
+        limits.sheet(&vec![0xFF; length]);
+    }
+    for index in 0..32 {
+        for way in 0..BAD_ROWS {
+            let rows = limits.dice.within(index + 1, 32);
+            let mut sheet = Vec::new();
+            for _ in 0..rows {
+                sheet.extend(pack_row(&any_row(&mut limits.dice), 0));
+            }
+            limits.sheet(&sheet);
+            let bad = bad_row(&mut limits.dice, way);
+            sheet[32 * index..32 * index + 32].copy_from_slice(&bad);
+            limits.sheet(&sheet);
+            limits.copy(&message_m(), &sheet, 56);
+            // A later bad row does not count.
+            sheet[32 * (rows - 1)..].fill(0xFF);
+            limits.sheet(&sheet);
+        }
+    }
+    // Each bit of a row alone.
+    for bit in 0..256 {
+        let mut sheet = pack_row(&Row::default(), 0);
+        sheet[bit / 8] |= 0x80 >> (bit % 8);
+        limits.sheet(&sheet);
+        let mut sheet = pack_row(&everything(), 0);
+        sheet[bit / 8] ^= 0x80 >> (bit % 8);
+        limits.sheet(&sheet);
+    }
+    // Start and end are compared as times, not pair by pair.
+    let across =
+        Row { start_seconds: 5, start_nanoseconds: 999_999_999, end_seconds: 6, ..Row::default() };
+    limits.sheet(&pack_row(&across, 0));
+}
+
+/// Ranges that just touch a package at both ends.
+fn grants(limits: &mut Limits) {
+    let world = World::new(&mut limits.dice);
+    let packages: [(u32, u32, u32, u32, u32); 7] = [
+        (0, 0, 0, 0, 0),
+        (7, 1, 100, 0, 10),
+        (7, 7, 100, 999_999_999, 1),
+        (u32::MAX, u32::MAX, u32::MAX, 999_999_999, 0),
+        (u32::MAX, 0, u32::MAX, 999_999_999, 1),
+        (5, 6, u32::MAX, 0, u32::MAX),
+        (1, 2, 100, 999_999_999, u32::MAX),
+    ];
+    for (message_id, id, seconds, nanoseconds, delta) in packages {
+        let mut one = message(&mut limits.dice, &world, 1);
+        (one.message_id, one.seconds, one.nanoseconds) = (message_id, seconds, nanoseconds);
+        (one.packages[0].id, one.packages[0].delta) = (id, delta);
+        let recording = one.laid();
+        let target = targets(&[one])[0];
+        // No row at all grants nothing, though rows behind the last are zero.
+        limits.copy(&recording, &[], recording.len());
+        limits.copy(&recording, &pack_row(&everything(), 0), recording.len());
+        limits.copy(&recording, &pack_row(&Row::default(), 0), recording.len());
+        for _ in 0..60 {
+            let row = row_near(&mut limits.dice, target);
+            limits.copy(&recording, &pack_row(&row, 0), recording.len());
+        }
+        // Only the last of 32 rows grants, and it grants twice over.
+        let mut rows = vec![Row { message_first: 9, message_last: 9, ..everything() }; 32];
+        limits.copy(&recording, &pack_sheet(&rows), recording.len());
+        rows[31] = everything();
+        limits.copy(&recording, &pack_sheet(&rows), recording.len());
+        rows[0] = everything();
+        limits.copy(&recording, &pack_sheet(&rows), recording.len());
+    }
+}
+
+/// ROW before LARGE, LARGE before the messages, the messages before ROOM.
+fn copy_order(limits: &mut Limits) {
+    let bad_row = pack_row(&Row::default(), 1);
+    let bad_size = vec![0; 33];
+    let all = pack_sheet(&[everything()]);
+    let large = vec![0; 65_537];
+    let damaged = [message_m(), m_with(29, &[11])].concat();
+    for sheet in [&bad_row, &bad_size, &all, &row_r()] {
+        for recording in [&large, &damaged, &message_m(), &Vec::new()] {
+            for room in [0, 39, 40, 56, 112] {
+                limits.copy(recording, sheet, room);
+            }
+        }
+    }
+}
+
+/// Long recordings of 1,820 messages in which sequence numbers grow, ids take
+/// turns, or many ids come back.
+fn sequence_numbers(limits: &mut Limits) {
+    for ids in [1, 2, 3, 300] {
+        sequence_numbers_of(limits, |number| number as u32 % ids);
+    }
+    for turn in [64, 256, 910, 1_025, 1_300, 1_700, 1_819, 1_820] {
+        sequence_numbers_of(limits, |number| there_and_back(number, turn));
+    }
+}
+
+fn sequence_numbers_of(limits: &mut Limits, id: impl Fn(usize) -> u32) {
+    let world = World::new(&mut limits.dice);
+    let mut messages = Vec::new();
+    for number in 0..1_820 {
+        let mut one = message_of_size(&mut limits.dice, &world, 36);
+        one.message_id = id(number);
+        (one.seconds, one.packages[0].id) = (100, number as u32 % 5);
+        messages.push(one);
+    }
+    let recording = lay_all(&messages).0;
+    let some = Row { package_first: 1, package_last: 3, ..everything() };
+    for row in [everything(), some] {
+        limits.copy(&recording, &pack_row(&row, 0), recording.len());
+    }
+    limits.check(&recording);
+}
+
+fn bursts(limits: &mut Limits) {
+    for length in
+        [0, 1, 2, 7, 8, 9, 254, 255, 256, 509, 510, 511, 768, 65_535, 65_536, 65_537, 70_000]
+    {
+        limits.randomize(&vec![0; length]);
+        let bytes = limits.dice.bytes(length);
+        limits.randomize(&bytes);
+    }
+    for length in 0..8 {
+        limits.open_burst(&MARKER_BYTES[..length]);
+    }
+    let whole = |codeblocks: usize| 8 + CODEBLOCK_BYTES * codeblocks;
+    let mut lengths = vec![8, 9, 775, 777, 65_535, 65_536, 65_537, 65_544];
+    for codeblocks in [1, 2, 3, 79, 80, 81, 82, 83, 84, 85] {
+        lengths.extend([whole(codeblocks) - 1, whole(codeblocks), whole(codeblocks) + 1]);
+    }
+    for length in lengths {
+        let mut burst = limits.dice.bytes(length);
+        burst[..8].copy_from_slice(&MARKER_BYTES);
+        limits.open_burst(&burst);
+        // Another marker comes before a bad number of codeblocks.
+        burst[7] ^= 1;
+        limits.open_burst(&burst);
+    }
+    for bit in 0..64 {
+        let mut burst = vec![0; whole(1)];
+        burst[..8].copy_from_slice(&MARKER_BYTES);
+        burst[bit / 8] ^= 0x80 >> (bit % 8);
+        limits.open_burst(&burst);
+    }
+}
+
+/// Each kind of pair at least once.
+fn demand_3(limits: &mut Limits) {
+    for kind in 0..WITHHELD.len() {
+        limits.begin();
+        withheld(limits.judge, &mut limits.dice, kind);
+    }
+    for kind in 0..CHANGED.len() {
+        limits.begin();
+        changed(limits.judge, &mut limits.dice, kind);
+    }
+}
+
+/// Each kind of round trip at least once.
+fn round_trips(limits: &mut Limits) {
+    for kind in 0..TRIPS.len() {
+        limits.begin();
+        trip(limits.judge, &mut limits.dice, kind);
+    }
+}

@@ -1,0 +1,50 @@
+//! The refusal numbers and their places.
+
+pub const SHORT: u32 = 1;
+pub const VERSION: u32 = 2;
+pub const TYPE: u32 = 3;
+pub const LENGTH: u32 = 4;
+pub const CUT: u32 = 5;
+pub const TIME: u32 = 6;
+pub const OPTION: u32 = 7;
+pub const FRAGMENT: u32 = 8;
+pub const STANDARD: u32 = 9;
+pub const PACKAGE: u32 = 10;
+pub const ROW: u32 = 11;
+pub const LARGE: u32 = 12;
+pub const ROOM: u32 = 13;
+pub const MARKER: u32 = 14;
+pub const BLOCKS: u32 = 15;
+
+/// The name of each refusal number; 0 is success.
+pub const NAMES: [&str; 16] = [
+    "success", "SHORT", "VERSION", "TYPE", "LENGTH", "CUT", "TIME", "OPTION", "FRAGMENT",
+    "STANDARD", "PACKAGE", "ROW", "LARGE", "ROOM", "MARKER", "BLOCKS",
+];
+
+/// Every input, sheets apart, has at most so many bytes.
+pub const MOST_BYTES: usize = 65_536;
+
+/// A refusal: its number and its place.
+#[derive(Clone, Copy, Debug, PartialEq, Eq)]
+pub struct Refusal {
+    pub number: u32,
+    pub place: usize,
+}
+
+pub fn refuse<T>(number: u32, place: usize) -> Result<T, Refusal> {
+    Err(Refusal { number, place })
+}
+
+/// Refuses with this number and place unless the rule holds.
+pub fn ask(rule: bool, number: u32, place: usize) -> Result<(), Refusal> {
+    if rule {
+        Ok(())
+    } else {
+        refuse(number, place)
+    }
+}
+
+pub fn ask_not_large(length: usize) -> Result<(), Refusal> {
+    ask(length <= MOST_BYTES, LARGE, MOST_BYTES)
+}

@@ -1,0 +1,78 @@
+//! The order sheet: rows of 256 bits and what they grant.
+
+use crate::parse::{package_time, MOST_NANOSECONDS};
+use crate::refusal::*;
+
+pub const ROW_BYTES: usize = 32;
+pub const MOST_ROWS: usize = 32;
+
+#[derive(Clone, Copy, Debug, Default, PartialEq, Eq)]
+pub struct Row {
+    pub message_first: u32,
+    pub message_last: u32,
+    pub package_first: u32,
+    pub package_last: u32,
+    pub start_seconds: u32,
+    pub start_nanoseconds: u32,
+    pub end_seconds: u32,
+    pub end_nanoseconds: u32,
+}
+
+impl Row {
+    fn start(&self) -> u64 {
+        package_time(self.start_seconds, self.start_nanoseconds, 0)
+    }
+
+    fn end(&self) -> u64 {
+        package_time(self.end_seconds, self.end_nanoseconds, 0)
+    }
+
+    pub fn grants(&self, message_id: u32, package_id: u32, time: u64) -> bool {
+        (self.message_first..=self.message_last).contains(&message_id)
+            && (self.package_first..=self.package_last).contains(&package_id)
+            && (self.start()..=self.end()).contains(&time)
+    }
+}
+
+/// Does some row of the sheet grant this package?
+pub fn granted(rows: &[Row], message_id: u32, package_id: u32, time: u64) -> bool {
+    rows.iter().any(|row| row.grants(message_id, package_id, time))
+}
+
+/// Reads a sheet into its rows: first the size, then row after row.
+pub fn read_sheet(sheet: &[u8]) -> Result<Vec<Row>, Refusal> {
+    let good_size = sheet.len() <= MOST_ROWS * ROW_BYTES && sheet.len().is_multiple_of(ROW_BYTES);
+    ask(good_size, ROW, sheet.len())?;
+    let mut rows = Vec::new();
+    for (index, bytes) in sheet.chunks(ROW_BYTES).enumerate() {
+        match read_row(bytes) {
+            Some(row) => rows.push(row),
+            None => return refuse(ROW, index * ROW_BYTES),
+        }
+    }
+    Ok(rows)
+}
+
+/// The row in these 32 bytes, if it keeps the rules.
+fn read_row(bytes: &[u8]) -> Option<Row> {
+    let half = |from: usize| u128::from_be_bytes(bytes[from..from + 16].try_into().unwrap());
+    let (ids, times) = (half(0), half(16));
+    let row = Row {
+        message_first: (ids >> 96) as u32,
+        message_last: (ids >> 64) as u32,
+        package_first: (ids >> 32) as u32,
+        package_last: ids as u32,
+        start_seconds: (times >> 96) as u32,
+        start_nanoseconds: (times >> 66) as u32 & 0x3FFF_FFFF,
+        end_seconds: (times >> 34) as u32,
+        end_nanoseconds: (times >> 4) as u32 & 0x3FFF_FFFF,
+    };
+    let spare = times & 15;
+    let good = row.message_first <= row.message_last
+        && row.package_first <= row.package_last
+        && row.start_nanoseconds <= MOST_NANOSECONDS
+        && row.end_nanoseconds <= MOST_NANOSECONDS
+        && row.start() <= row.end()
+        && spare == 0;
+    good.then_some(row)
+}

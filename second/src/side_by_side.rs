@@ -1,0 +1,163 @@
+//! One function for each export: it calls the export and the second program
+//! on the same input and has the judge compare them. It returns what the
+//! export gave.
+
+use crate::answers::{self, Answer};
+use crate::dice::Dice;
+use crate::drafts::OwnDraft;
+use crate::exports;
+use crate::judge::Judge;
+use crate::lent::Lent;
+use crate::render::Draft;
+
+// The exports' places in the judge's table.
+const HEADER: usize = 0;
+const PACKAGE: usize = 1;
+const CHECK: usize = 2;
+const WRITE: usize = 3;
+const CLEAN: usize = 4;
+const SHEET: usize = 5;
+const COPY: usize = 6;
+const RANDOMIZE: usize = 7;
+const OPEN_BURST: usize = 8;
+
+pub fn header(judge: &mut Judge, dice: &mut Dice, bytes: &[u8]) -> Answer<10> {
+    let mut input = Lent::new(dice, bytes);
+    let given = exports::header(input.lend());
+    let expected = answers::header(bytes);
+    judge.settle(HEADER, &[], expected, given, &[("input", &input)]);
+    given.answer
+}
+
+pub fn package(judge: &mut Judge, dice: &mut Dice, run: &[u8], at: usize) -> Answer<9> {
+    let mut input = Lent::new(dice, run);
+    let given = exports::package(input.lend(), at);
+    let expected = answers::package(run, at);
+    judge.settle(PACKAGE, &[("at", at as u64)], expected, given, &[("run", &input)]);
+    given.answer
+}
+
+pub fn check(judge: &mut Judge, dice: &mut Dice, recording: &[u8]) -> Answer<3> {
+    let mut input = Lent::new(dice, recording);
+    let given = exports::check(input.lend());
+    let expected = answers::check(recording);
+    judge.settle(CHECK, &[], expected, given, &[("recording", &input)]);
+    given.answer
+}
+
+pub fn write(
+    judge: &mut Judge,
+    dice: &mut Dice,
+    draft: &OwnDraft,
+    room: usize,
+) -> (Answer<2>, Vec<u8>) {
+    let draft: Draft = draft.borrowed();
+    let mut options = Lent::new(dice, draft.options);
+    let mut packages = Lent::new(dice, draft.packages);
+    let mut out = Lent::buffer(dice, room);
+    let given = exports::write(&draft, options.lend(), packages.lend(), out.lend());
+    let expected = answers::write(&draft, out.expected());
+    let buffers = [("options", &options), ("packages", &packages), ("out", &out)];
+    let numbers = [
+        ("flags", draft.flags.into()),
+        ("message id", draft.message_id.into()),
+        ("sequence number", draft.sequence.into()),
+        ("seconds", draft.seconds.into()),
+        ("nanoseconds", draft.nanoseconds.into()),
+    ];
+    judge.settle(WRITE, &numbers, expected, given, &buffers);
+    (given.answer, out.content().to_vec())
+}
+
+pub fn clean(
+    judge: &mut Judge,
+    dice: &mut Dice,
+    bytes: &[u8],
+    room: usize,
+) -> (Answer<2>, Vec<u8>) {
+    let mut input = Lent::new(dice, bytes);
+    let mut out = Lent::buffer(dice, room);
+    let given = exports::clean(input.lend(), out.lend());
+    let expected = answers::clean(bytes, out.expected());
+    let buffers = [("input", &input), ("out", &out)];
+    judge.settle(CLEAN, &[], expected, given, &buffers);
+    (given.answer, out.content().to_vec())
+}
+
+pub fn sheet(judge: &mut Judge, dice: &mut Dice, sheet: &[u8]) -> Answer<258> {
+    let mut input = Lent::new(dice, sheet);
+    let given = exports::sheet(input.lend());
+    let expected = answers::sheet(sheet);
+    judge.settle(SHEET, &[], expected, given, &[("sheet", &input)]);
+    given.answer
+}
+
+pub fn copy(
+    judge: &mut Judge,
+    dice: &mut Dice,
+    recording: &[u8],
+    sheet: &[u8],
+    room: usize,
+) -> (Answer<4>, Vec<u8>) {
+    let buffer = dice.bytes(room);
+    copy_into(judge, dice, recording, sheet, &buffer)
+}
+
+/// The copy into a buffer with these bytes.
+pub fn copy_into(
+    judge: &mut Judge,
+    dice: &mut Dice,
+    recording: &[u8],
+    sheet: &[u8],
+    buffer: &[u8],
+) -> (Answer<4>, Vec<u8>) {
+    let mut input = Lent::new(dice, recording);
+    let mut order = Lent::new(dice, sheet);
+    let mut out = Lent::new(dice, buffer);
+    let given = exports::copy(input.lend(), order.lend(), out.lend());
+    let expected = answers::copy(recording, sheet, out.expected());
+    let buffers = [("recording", &input), ("sheet", &order), ("out", &out)];
+    judge.settle(COPY, &[], expected, given, &buffers);
+    (given.answer, out.content().to_vec())
+}
+
+pub fn randomize(judge: &mut Judge, dice: &mut Dice, bytes: &[u8]) -> (Answer<1>, Vec<u8>) {
+    let mut buffer = Lent::new(dice, bytes);
+    let given = exports::randomize(buffer.lend());
+    let expected = answers::randomize(buffer.expected());
+    judge.settle(RANDOMIZE, &[], expected, given, &[("buffer", &buffer)]);
+    (given.answer, buffer.content().to_vec())
+}
+
+pub fn open_burst(judge: &mut Judge, dice: &mut Dice, bytes: &[u8]) -> (Answer<2>, Vec<u8>) {
+    let mut buffer = Lent::new(dice, bytes);
+    let given = exports::open_burst(buffer.lend());
+    let expected = answers::open_burst(buffer.expected());
+    judge.settle(OPEN_BURST, &[], expected, given, &[("burst", &buffer)]);
+    (given.answer, buffer.content().to_vec())
+}
+
+/// Walks over the packages of a run from this place on, following the places
+/// that the export gives, and returns the values of the steps that showed one.
+pub fn walk(judge: &mut Judge, dice: &mut Dice, run: &[u8], start: usize) -> Vec<[u64; 9]> {
+    let mut input = Lent::new(dice, run);
+    let mut shown = Vec::new();
+    let mut at = start;
+    // A run has no more packages than this, so a walk that hangs is caught.
+    for _ in 0..=run.len() / 12 + 1 {
+        let given = exports::package(input.lend(), at);
+        let expected = answers::package(run, at);
+        // The run is looked at again only where something differs, and last.
+        let run_part = [("run", &input)];
+        let told = if expected == given.answer { &[][..] } else { &run_part };
+        judge.settle(PACKAGE, &[("at", at as u64)], expected, given, told);
+        let values = given.answer.values;
+        if given.answer.number != 0 || values[1] == 0 {
+            break;
+        }
+        shown.push(values);
+        at = values[8] as usize;
+    }
+    judge.untouched("run", &input);
+    shown
+}
