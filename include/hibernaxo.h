@@ -27,13 +27,13 @@ enum hibernaxo_refusal {
     HIBERNAXO_TYPE = 3,      /* the type is not 0: the message */
     HIBERNAXO_LENGTH = 4,    /* the length is below 24 + 4 W or no multiple of 4: the message */
     HIBERNAXO_CUT = 5,       /* the length is above the bytes left: the message */
-    HIBERNAXO_TIME = 6,      /* more than 999,999,999 nanoseconds: the message */
-    HIBERNAXO_OPTION = 7,    /* the first option against the rules: the option */
+    HIBERNAXO_TIME = 6,      /* more than 999,999,999 nanoseconds: the message; 0 in the writer */
+    HIBERNAXO_OPTION = 7,    /* the first option against the rules: the option; 60 for the writer's run above 60 bytes */
     HIBERNAXO_FRAGMENT = 8,  /* flag bits 5-4 are not 00: the message */
     HIBERNAXO_STANDARD = 9,  /* flag bit 7 is 1 with no payload, or 0 with one: the message */
     HIBERNAXO_PACKAGE = 10,  /* a package that its header or the bytes left do not allow: the package */
     HIBERNAXO_ROW = 11,      /* a row against the rules: the row; a bad size of the sheet: the sheet's length */
-    HIBERNAXO_LARGE = 12,    /* an input above 65,536 bytes: 65536 */
+    HIBERNAXO_LARGE = 12,    /* an input, or the writer's message, above 65,536 bytes: 65536 */
     HIBERNAXO_ROOM = 13,     /* the output buffer is too short: the bytes needed */
     HIBERNAXO_MARKER = 14,   /* fewer than 8 bytes, or another marker: 0 */
     HIBERNAXO_BLOCKS = 15    /* not 1 to 80 whole codeblocks: the burst's length */

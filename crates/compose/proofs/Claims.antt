@@ -8,7 +8,7 @@ use lib.ListN.{length, drop}
 use lib.Seq.{sets, sets-eq}
 use Rattle.rules.specs.Outcome.{Outcome, good, _>>_, _>>=_}
 use Rattle.rules.specs.Bytes.{Bytes}
-use Rattle.rules.specs.Message.{sizeable, Message, message}
+use Rattle.rules.specs.Message.{notLarge, Message, message}
 use Rattle.rules.specs.Writer.{write, Draft, accepted, written, writer}
 use Rattle.rules.specs.Clean.{clean, cleaner}
 use Rattle.rules.specs.Buffer as answers
@@ -63,7 +63,7 @@ pub cleaned-again : (s b : List ℕ) (m : Message) (n : ℕ) → Bytes s → len
     → Again m b (cleaner s b)
 unfolding cleaner
 cleaned-again s b m n v h e l = record {
-  written = kept (sizeable s >> clean s) (write m) b (pass _ _ _ _ (le-ltb 65536 (length s) h) (read-written s v m n e)) l;
+  written = kept (notLarge s >> clean s) (write m) b (pass _ _ _ _ (le-ltb 65536 (length s) h) (read-written s v m n e)) l;
   read = rw (stands (write m) b l) (written-read m (read-valid 0 s v h m n e) 0 _);
 }
 

@@ -9,7 +9,7 @@ use lib.ListN.{length, length-take, length-drop, drop}
 use Rattle.rules.specs.Outcome.{Outcome, good, bad, _>>_, _>>=_}
 use Rattle.rules.specs.Bytes.{Bytes, pad, part}
 use Rattle.rules.specs.Packages.{cut}
-use Rattle.rules.specs.Message.{head, front, parsed, recordOf, sizeable}
+use Rattle.rules.specs.Message.{head, front, parsed, recordOf, notLarge}
 use Rattle.rules.specs.Clean.{cleaned, clean, cleaner}
 use Rattle.rules.specs.Writer.{Draft, drafted}
 use Rattle.rules.specs.Valid.{Valid}
@@ -72,7 +72,7 @@ pub record Read (s : List ℕ) (k : MessageSpot) : Type 0 where
   pub payload : length (spotDraft s k .packages) ≡ k .next - k .payload
   pub small : sizeOf (spotDraft s k) ≤ 65536
   pub cuts : Cuts (spotDraft s k .packages)
-  pub bytes : (sizeable s >> clean s) ≡ good (messageOf (spotDraft s k) (cut 0 (spotDraft s k .packages)))
+  pub bytes : (notLarge s >> clean s) ≡ good (messageOf (spotDraft s k) (cut 0 (spotDraft s k .packages)))
 
 module _ (s : List ℕ) (b : Bytes s) (l : length s ≤ 65536) (r : ℕ × List (List ℕ)) (e : parsed 0 s (head s) ≡ good r) where
   read-parts : Read s (record { head = head s; run = r .0; payload = front (head s); next = head s .size; packages = length (r .1) })
@@ -115,14 +115,14 @@ same-refusal (good tt) (bad m q) f g {n} {p} e = let i : n ≡ m = cc in let j :
 same-refusal (good tt) (good a) f g e = absurd (good≢bad e)
 
 -- a message that is refused
-pub unread : (s : List ℕ) {n p : ℕ} → bad n p ≡ messageAt s 0 → bad n p ≡ sized (sizeable s >> clean s)
+pub unread : (s : List ℕ) {n p : ℕ} → bad n p ≡ messageAt s 0 → bad n p ≡ sized (notLarge s >> clean s)
 unfolding messageAt messageHere clean
-unread s e = same-refusal (sizeable s) (parsed 0 s (head s)) (messageSpot 0 (head s)) (cleaned s) e
+unread s e = same-refusal (notLarge s) (parsed 0 s (head s)) (messageSpot 0 (head s)) (cleaned s) e
 
 -- the cleaner's answers
 pub clean-refused : (s b : List ℕ) {n p : ℕ} → bad n p ≡ messageAt s 0 → answer n p 0 b ≡ cleaner s b
 unfolding cleaner
-clean-refused s b e = refusing b (sizeable s >> clean s) (unread s e)
+clean-refused s b e = refusing b (notLarge s >> clean s) (unread s e)
 
 module _ (s b : List ℕ) (k : MessageSpot) (v : Bytes s) (e : good k ≡ messageAt s 0) where
   seen : Read s k
@@ -135,4 +135,4 @@ module _ (s b : List ℕ) (k : MessageSpot) (v : Bytes s) (e : good k ≡ messag
 
   pub clean-finished : finished (spotDraft s k) b ≡ cleaner s b
   unfolding cleaner
-  clean-finished = finishing (spotDraft s k) b (sizeable s >> clean s) (seen .bytes)
+  clean-finished = finishing (spotDraft s k) b (notLarge s >> clean s) (seen .bytes)

@@ -8,7 +8,7 @@ use lib.ListN.{length, take, drop, length-append}
 use lib.Seq.{sets}
 use borrow.Rule.Slice.PartMut.{putMid}
 use Rattle.rules.specs.Outcome.{_>>=_, _>>_}
-use Rattle.rules.specs.Bytes.{put32, pad, padded, part, any}
+use Rattle.rules.specs.Bytes.{put32, pad, padded, part, oneIfAny}
 use Rattle.rules.specs.Packages.{cut, packageOf, pieceOf, Fills, none, more}
 use Rattle.rules.specs.Writer.{write, Draft, drafted, written, writer}
 use Rattle.rules.specs.Buffer.{stored}
@@ -28,11 +28,11 @@ rendered-length (more {c = c} {cs = cs} {s = s} h r) =
     omega (arith, length-append (pieceOf (packageOf c)) (rendered cs), length-append c s, piece-length c h, rendered-length r)
 
 -- 0 for no bytes, 1 for some
-pub any-none : (s : List ℕ) → length s ≡ 0 → any s ≡ 0
+pub any-none : (s : List ℕ) → length s ≡ 0 → oneIfAny s ≡ 0
 any-none [] l = refl
 any-none (x ∷ s) l = absurd (omega arith)
 
-pub any-some : (s : List ℕ) → 0 < length s → any s ≡ 1
+pub any-some : (s : List ℕ) → 0 < length s → oneIfAny s ≡ 1
 any-some [] l = absurd (omega arith)
 any-some (x ∷ s) l = refl
 
@@ -54,7 +54,7 @@ header-stored b w f i q z s n {b₁ = b₁} h l e k a₁ a₂ a₃ a₄ a₅ a�
 
 -- flag 7, the kept flags, and the option words of a draft
 abbrev pub flagsOf : Draft → ℕ
-flagsOf d = d .flags / 64 % 2 * 64 + d .flags % 16 + any (d .packages) * 128
+flagsOf d = d .flags / 64 % 2 * 64 + d .flags % 16 + oneIfAny (d .packages) * 128
 
 abbrev pub wordsOf : Draft → ℕ
 wordsOf d = pad (length (d .options)) / 4

@@ -10,7 +10,7 @@ ghost use Prim.Native.Nat.{_+_, _-_, _*_, _/_, _%_, _≤_, _<_, min};
 ghost use mathlib.Core.Bool.{true};
 ghost use lib.ListN.{length, drop};
 ghost use lib.Seq.{sets};
-ghost use Rattle.rules.specs.Bytes.{half, pad, part, padded, any};
+ghost use Rattle.rules.specs.Bytes.{half, pad, part, padded, oneIfAny};
 ghost use Rattle.rules.specs.Packages.{packageFits, cut, packageOf, pieceOf};
 ghost use Rattle.compose.specs.Payload.{Cuts, Moved, payloadOf, frontOf, headerOf, messageOf, finished, sized, Fit, Ready};
 ghost use Rattle.compose.specs.Told.{draftOf, recordBy, toldSize, told};
@@ -83,7 +83,7 @@ fn put_front(out: &mut [u8], piece: &[u8], n: usize)
 }
 
 // Stores the package of a piece at the start of `out`, reserved byte and padding zero.
-pub fn put_package(out: &mut [u8], piece: &[u8])
+fn put_package(out: &mut [u8], piece: &[u8])
     ensures { λ _. ⌜ now (out .exit) ≡ sets (now (out .entry)) 0 (pieceOf (packageOf (now (piece .entry)))) ⌝ }
 {
     let n = content_len(piece);
@@ -128,7 +128,7 @@ fn put_options(out: &mut [u8], run: &[u8])
 
 // The flags of a message: the kept ones, and flag 7 where there are packages.
 fn flags_of(flags: u8, packages: &[u8]) -> u8
-    ensures { λ r. ⌜ r ≡ flags / 64 % 2 * 64 + flags % 16 + any (now (packages .entry)) * 128 ⌝ }
+    ensures { λ r. ⌜ r ≡ flags / 64 % 2 * 64 + flags % 16 + oneIfAny (now (packages .entry)) * 128 ⌝ }
 {
     let kept = flags / 64 % 2 * 64 + flags % 16;
     if packages.len() == 0 {

@@ -11,7 +11,7 @@ use lib.Dec.{ltb, eqb}
 use lib.ListN.{length, take, drop, length-take, length-drop, length-append, length-map, drop-of-length-le}
 use lib.Seq.{drop-cons, length-take-le}
 use Rattle.rules.specs.Outcome.{Outcome, good, bad, refuse, _>>_, _>>=_, SHORT, LARGE, FRAGMENT, STANDARD}
-use Rattle.rules.specs.Bytes.{at, part, any}
+use Rattle.rules.specs.Bytes.{at, part, oneIfAny}
 use Rattle.rules.specs.Items.{items}
 use Rattle.rules.specs.Packages.{Fills, none, more, cut, packageOf}
 use Rattle.rules.specs.Message.{Head, head, front, checked, runLength, framed, parsed, Message, recordOf, message, recording}
@@ -29,11 +29,11 @@ use Rattle.message.specs.declared.Header.{Header}
 use Rattle.message.specs.declared.MessageRead.the-variants as messageRead
 
 -- a part is empty or not by its ends
-any-part : (s : List ℕ) (a e : ℕ) → e ≤ length s → any (part a e s) ≡ between a e
+any-part : (s : List ℕ) (a e : ℕ) → e ≤ length s → oneIfAny (part a e s) ≡ between a e
 unfolding between
 any-part s a e h = go (ltb a e) refl
   where
-    go : (b : Bool) → ltb a e ≡ b → any (part a e s) ≡ between a e
+    go : (b : Bool) → ltb a e ≡ b → oneIfAny (part a e s) ≡ between a e
     go true t =
         let l : a < e = ltb-true _ _ t in
         let m : a < length s = omega arith in
@@ -54,31 +54,31 @@ module _ (p : ℕ) (s : List ℕ) (h : Head) (n : ℕ) where
   fragment a = sym (stop _ _ (halt _ _ _ _ (isnt (h .flags / 16 % 4) 0 a)))
 
   module _ (a : h .flags / 16 % 4 ≡ 0) (o : Opened s h p) (f z : ℕ) (ef : f ≡ 24 + 4 * h .words) (ez : z ≡ h .size) (b : ℕ) (eb : b ≡ between f z) where
-    some-payload : any (part (front h) (h .size) s) ≡ b
+    some-payload : oneIfAny (part (front h) (h .size) s) ≡ b
     some-payload = any-part s (front h) (h .size) (o .most) ∙ rw (← ef, ← ez) (sym eb)
 
     pub standard : (h .flags / 128 % 2 ≡ b → ⊥) → bad STANDARD p ≡ framedSpot p s h n
     unfolding framedSpot framed
     standard c =
-        let q : any (part (front h) (h .size) s) ≡ b = some-payload in
-        sym (stop _ _ (pass _ _ _ _ (is (h .flags / 16 % 4) 0 a) (halt _ _ _ _ (isnt (h .flags / 128 % 2) (any (part (front h) (h .size) s)) (λ w. c (w ∙ q))))))
+        let q : oneIfAny (part (front h) (h .size) s) ≡ b = some-payload in
+        sym (stop _ _ (pass _ _ _ _ (is (h .flags / 16 % 4) 0 a) (halt _ _ _ _ (isnt (h .flags / 128 % 2) (oneIfAny (part (front h) (h .size) s)) (λ w. c (w ∙ q))))))
 
     module _ (c : h .flags / 128 % 2 ≡ b) where
-      fits : h .flags / 128 % 2 ≡ any (part (front h) (h .size) s)
+      fits : h .flags / 128 % 2 ≡ oneIfAny (part (front h) (h .size) s)
       fits = c ∙ sym some-payload
 
       pub no-cut : {m q : ℕ} → bad m q ≡ cutCount (p + f) (take (z - f) (drop f s)) → bad m q ≡ framedSpot p s h n
       unfolding framedSpot framed cutCount
       no-cut {m} {q} e =
           let g : cutCount (p + front h) (part (front h) (h .size) s) ≡ bad m q = sym (rw (ef, ez) at e) in
-          sym (stop _ _ (pass _ _ _ _ (is (h .flags / 16 % 4) 0 a) (pass _ _ _ _ (is (h .flags / 128 % 2) (any (part (front h) (h .size) s)) fits) (uncut (p + front h) (part (front h) (h .size) s) g))))
+          sym (stop _ _ (pass _ _ _ _ (is (h .flags / 16 % 4) 0 a) (pass _ _ _ _ (is (h .flags / 128 % 2) (oneIfAny (part (front h) (h .size) s)) fits) (uncut (p + front h) (part (front h) (h .size) s) g))))
 
       pub whole : (k : ℕ) → good k ≡ cutCount (p + f) (take (z - f) (drop f s)) → good (record { head = h; run = n; payload = p + f; next = p + z; packages = k }) ≡ framedSpot p s h n
       unfolding framedSpot framed cutCount messageSpot
       whole k e =
           let (cs, g, d) = stepped _ _ (sym (rw (ef, ez) at e)) in
           let w : length cs ≡ k = good-inj d in
-          sym (step _ _ (pass _ _ _ _ (is (h .flags / 16 % 4) 0 a) (pass _ _ _ _ (is (h .flags / 128 % 2) (any (part (front h) (h .size) s)) fits) g)) (rw (w, ef, ez)))
+          sym (step _ _ (pass _ _ _ _ (is (h .flags / 16 % 4) 0 a) (pass _ _ _ _ (is (h .flags / 128 % 2) (oneIfAny (part (front h) (h .size) s)) fits) g)) (rw (w, ef, ez)))
 
 -- the header as it is told
 pub told : (h : Raw) (n : ℕ) (r : Header) (x y k : ℕ) {o : Outcome MessageSpot} → h .version ≡ 1 → h .kind ≡ 0 → r ≡ headerOf h n

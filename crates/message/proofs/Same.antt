@@ -8,7 +8,7 @@ use Rattle.rules.specs.Message.{Head}
 use Rattle.rules.specs.Claims.{TellsApart}
 use Rattle.rules.proofs.Outcomes.{good-inj, good≢bad}
 use Rattle.refusal.proofs.Numbers.{refused-injective}
-use Rattle.message.specs.Answers.{headTold, toldHeader, packageTold, toldPackage, spotTold, toldMessage, toldCheck}
+use Rattle.message.specs.Answers.{headTold, toldHeader, packageTold, toldPackage, spotTold, toldMessage, toldCount, toldCheck}
 use Rattle.rules.specs.Walk.{PackageSpot}
 use Rattle.rules.specs.Reading.{MessageSpot}
 use Rattle.message.specs.declared.Header.{Header}
@@ -20,6 +20,7 @@ use Rattle.message.specs.declared.PackageRead.{PackageRead}
 use Rattle.message.specs.declared.PackageRead.the-variants as packageRead
 use Rattle.message.specs.declared.MessageRead.{MessageRead}
 use Rattle.message.specs.declared.MessageRead.the-variants as messageRead
+use Rattle.message.specs.declared.Count.the-variants as count
 use Rattle.message.specs.declared.Checked.{Checked}
 use Rattle.message.specs.declared.Checked.the-variants as checked
 
@@ -85,6 +86,12 @@ same-message (messageRead.Message m) (messageRead.Message n) e =
 same-message (messageRead.Message m) (messageRead.Refused r) e = absurd (good≢bad (sym e))
 same-message (messageRead.Refused r) (messageRead.Message m) e = absurd (good≢bad e)
 same-message (messageRead.Refused r) (messageRead.Refused q) e = ap messageRead.Refused (refused-injective r q e)
+
+pub same-count : TellsApart toldCount
+same-count (count.Number m) (count.Number n) e = ap count.Number (good-inj e)
+same-count (count.Number m) (count.Refused r) e = absurd (good≢bad (sym e))
+same-count (count.Refused r) (count.Number m) e = absurd (good≢bad e)
+same-count (count.Refused r) (count.Refused q) e = ap count.Refused (refused-injective r q e)
 
 passedOf : ℕ × ℕ → Checked
 passedOf r = checked.Passed (r .0) (r .1)

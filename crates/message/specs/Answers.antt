@@ -1,4 +1,4 @@
--- What the answers of `message` stand for, and the definitions that the paper's rules give for a place in a recording or a run.
+-- What the answers of `message` stand for, and what its inner functions promise.
 use Prim.Native.Nat.{ℕ, zero, _+_, _*_, _/_, _%_, _≤_, _<_}
 use mathlib.Core.Path.{_≡_}
 use mathlib.Core.Bool.{true, false, not}

@@ -3,17 +3,17 @@ use Prim.Native.Nat.{ℕ, zero}
 use mathlib.Core.List.{List}
 use Rattle.rules.specs.Outcome.{Outcome, _>>_}
 use Rattle.rules.specs.Options.{run}
-use Rattle.rules.specs.Message.{sizeable}
+use Rattle.rules.specs.Message.{notLarge}
 use Rattle.message.specs.Answers.{cutCount}
 
 -- how long the run of a bare list of options is
 unfoldable pub optionsOf : List ℕ → Outcome ℕ
 optionsOf o = do
-  sizeable o
+  notLarge o
   run zero zero zero o
 
 -- how many packages a bare run holds
 unfoldable pub cutOf : List ℕ → Outcome ℕ
 cutOf q = do
-  sizeable q
+  notLarge q
   cutCount zero q

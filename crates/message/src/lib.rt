@@ -53,7 +53,7 @@ pub enum PackageRead {
     Refused(Refusal),
 }
 
-// A message: its payload is the recording's bytes from `payload` to `next`, where the next message begins.
+// A message: its payload is the recording's bytes from `payload` to `next`, where the next message begins, and holds `packages` packages.
 pub struct Message {
     pub header: Header,
     pub payload: usize,

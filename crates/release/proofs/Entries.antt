@@ -16,7 +16,7 @@ use Rattle.rules.specs.Message as messages
 use Rattle.rules.specs.Message.{head, front, parsed, recordOf, message}
 use Rattle.rules.specs.Writer.{write}
 use Rattle.rules.specs.Sheet as rows
-use Rattle.rules.specs.Copy.{granted, Entry, granteds, enter, released, count, stamp, rendered, packagesIn}
+use Rattle.rules.specs.Copy.{granted, Entry, grantedPackages, enter, released, count, stamp, rendered, packagesIn}
 use Rattle.rules.proofs.Outcomes.{pass, step, stop, passed, stepped, good-inj, good≢bad, refused-step}
 use Rattle.rules.proofs.Cut as Cut
 use Rattle.rules.proofs.Passed.{Passed, passes}
@@ -84,8 +84,8 @@ module _ (m m′ : messages.Message) (i : m .id ≡ m′ .id) (s : m .seconds �
       let e : rows.grants (m .id) (p .id) (packageTime (m .seconds) (m .nanos) (p .delta)) r ≡ rows.grants (m′ .id) (p .id) (packageTime (m′ .seconds) (m′ .nanos) (p .delta)) r = rw (i, s, n) in
       ap₂ (λ (a b : Bool). a || b) e (granted-same rs p)
 
-  granteds-same : (rs : List rows.Row) (ps : List rules.Package) → granteds rs m ps ≡ granteds rs m′ ps
-  unfolding granteds
+  granteds-same : (rs : List rows.Row) (ps : List rules.Package) → grantedPackages rs m ps ≡ grantedPackages rs m′ ps
+  unfolding grantedPackages
   granteds-same rs [] = refl
   granteds-same rs (p ∷ ps) = ap₂ (λ (b : Bool) (l : List rules.Package). elim b [ true ↦ p ∷ l | false ↦ l ]) (granted-same rs p) (granteds-same rs ps)
 
@@ -139,7 +139,7 @@ module _ (tape : List ℕ) (k : ℕ) (m : Message) (f : Met tape k m) where
     abbrev pub ps : List rules.Package
     ps = kept rs (who (m .header)) (f .r .1)
 
-    granted-are : granteds rs it (it .packages) ≡ ps
+    granted-are : grantedPackages rs it (it .packages) ≡ ps
     unfolding kept recordOf
     granted-are = granteds-same it (who (m .header)) (f .id) (f .seconds) (f .nanos) rs (map packageOf (f .r .1))
 

@@ -12,7 +12,7 @@ use Rattle.rules.specs.Packages as rules
 use Rattle.rules.specs.Packages.{piece, cut, packageOf, pieceOf, packageTime}
 use Rattle.rules.specs.Message.{Message}
 use Rattle.rules.specs.Sheet as rows
-use Rattle.rules.specs.Copy.{granted, granteds}
+use Rattle.rules.specs.Copy.{granted, grantedPackages}
 use Rattle.rules.proofs.Outcomes.{good-inj, good≢bad}
 use Rattle.rules.proofs.Growing.{join-append, map-append}
 use Rattle.rules.proofs.Loops.{Doing, doing-start, doing-next, doing-end, doing-bad, sets-sets}
@@ -35,8 +35,8 @@ grow true ps p = ps ++ (p ∷ [])
 grow false ps p = ps
 
 module _ (rs : List rows.Row) (m : Message) where
-  granteds-snoc : (ps : List rules.Package) (p : rules.Package) → granteds rs m (ps ++ (p ∷ [])) ≡ grow (granted rs m p) (granteds rs m ps) p
-  unfolding granteds
+  granteds-snoc : (ps : List rules.Package) (p : rules.Package) → grantedPackages rs m (ps ++ (p ∷ [])) ≡ grow (granted rs m p) (grantedPackages rs m ps) p
+  unfolding grantedPackages
   granteds-snoc [] p = go (granted rs m p)
     where
       go : (b : Bool) → elim b [ true ↦ p ∷ [] | false ↦ [] ] ≡ grow b [] p
@@ -44,9 +44,9 @@ module _ (rs : List rows.Row) (m : Message) where
       go false = refl
   granteds-snoc (q ∷ ps) p = go (granted rs m q) (granted rs m p) (granteds-snoc ps p)
     where
-      go : (b c : Bool) → granteds rs m (ps ++ (p ∷ [])) ≡ grow c (granteds rs m ps) p
-          → elim b [ true ↦ q ∷ granteds rs m (ps ++ (p ∷ [])) | false ↦ granteds rs m (ps ++ (p ∷ [])) ]
-          ≡ grow c (elim b [ true ↦ q ∷ granteds rs m ps | false ↦ granteds rs m ps ]) p
+      go : (b c : Bool) → grantedPackages rs m (ps ++ (p ∷ [])) ≡ grow c (grantedPackages rs m ps) p
+          → elim b [ true ↦ q ∷ grantedPackages rs m (ps ++ (p ∷ [])) | false ↦ grantedPackages rs m (ps ++ (p ∷ [])) ]
+          ≡ grow c (elim b [ true ↦ q ∷ grantedPackages rs m ps | false ↦ grantedPackages rs m ps ]) p
       go true true e = ap (λ (l : List rules.Package). q ∷ l) e
       go true false e = ap (λ (l : List rules.Package). q ∷ l) e
       go false c e = e
@@ -78,7 +78,7 @@ pub record Keeping (rs : List rows.Row) (m : Message) (run : List ℕ) (ps : Lis
 
 module _ (rs : List Row) (n : ℕ) (h : Header) (run : List ℕ) where
   keep-start : Keeping (sheetOf rs n) (who h) run [] 0
-  unfolding kept granteds
+  unfolding kept grantedPackages
   keep-start = record { done = []; doing = doing-start piece run; inside = omega arith; are = refl }
 
   module _ (ps : List rules.Package) (k : ℕ) (inv : Keeping (sheetOf rs n) (who h) run ps k) where

@@ -265,6 +265,7 @@ fn write(recording: &[u8], rows: [Row; 32], n: usize, out: &mut [u8])
     requires { ⌜ length (now recording) ≤ 65536 ⌝ }
     ensures { λ _. ⌜ Wrote (sheetOf rows n) (now (recording .entry)) (now (out .entry)) (now (out .exit)) ⌝ }
 {
+    // A message with a package has 36 bytes at least, so a recording has at most 1,820 of them.
     let mut ids = [0u32; 1820];
     let mut numbers = [0u32; 1820];
     let mut held = 0;

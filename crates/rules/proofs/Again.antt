@@ -8,7 +8,7 @@ use borrow.Author.Tests.{eq-eqb, le-ltb}
 use lib.ListN.{length, drop, length-append}
 use lib.Seq.{take-append-seam, drop-append-seam, drop-drop}
 use Rattle.rules.specs.Outcome.{good}
-use Rattle.rules.specs.Bytes.{at, word, pad, padded, part, join, any}
+use Rattle.rules.specs.Bytes.{at, word, pad, padded, part, join, oneIfAny}
 use Rattle.rules.specs.Options.{run}
 use Rattle.rules.specs.Packages.{Package, cut, pieceOf}
 use Rattle.rules.specs.Message.{Head, head, front, checked, runLength, framed, parsed, Message, recordOf, message}
@@ -58,7 +58,7 @@ module _ (m : Message) (v : Valid m) (t : List ℕ) where
     version = 1;
     words = length options / 4;
     kind = 0;
-    flags = m .flags + any (m .packages) * 128;
+    flags = m .flags + oneIfAny (m .packages) * 128;
     id = m .id;
     sequence = m .sequence;
     size = 24 + length options + length payload;
@@ -117,10 +117,10 @@ module _ (m : Message) (v : Valid m) (t : List ℕ) where
       let c : 24 + length (m .options) - 24 ≡ length (m .options) = omega arith in
       rw (c, body, append-assoc, append-assoc, take-append-seam)
 
-  pub any-le : any (m .packages) ≤ 1
+  pub any-le : oneIfAny (m .packages) ≤ 1
   any-le = go (m .packages)
     where
-      go : (l : List Package) → any l ≤ 1
+      go : (l : List Package) → oneIfAny l ≤ 1
       go [] = omega arith
       go (x ∷ l) = omega arith
 
@@ -151,8 +151,8 @@ module _ (m : Message) (v : Valid m) (t : List ℕ) where
     framed-again : framed p (write m ++ t) header ≡ good (map pieceOf (m .packages))
     unfolding framed
     framed-again =
-        pass _ _ _ _ (rw (eq-eqb ((m .flags + any (m .packages) * 128) / 16 % 4) 0 (omega (arith, v .flags, any-le))))
-        (pass _ _ _ _ (rw (words4, payload-part (write m ++ t) options payload t body, any-pieces, eq-eqb ((m .flags + any (m .packages) * 128) / 128 % 2) (any (m .packages)) (seven (m .flags) (any (m .packages)) any-le (v .flags))))
+        pass _ _ _ _ (rw (eq-eqb ((m .flags + oneIfAny (m .packages) * 128) / 16 % 4) 0 (omega (arith, v .flags, any-le))))
+        (pass _ _ _ _ (rw (words4, payload-part (write m ++ t) options payload t body, any-pieces, eq-eqb ((m .flags + oneIfAny (m .packages) * 128) / 128 % 2) (oneIfAny (m .packages)) (seven (m .flags) (oneIfAny (m .packages)) any-le (v .flags))))
         cut-again)
 
     parsed-again : parsed p (write m ++ t) header ≡ good (length (m .options), map pieceOf (m .packages))
@@ -161,7 +161,7 @@ module _ (m : Message) (v : Valid m) (t : List ℕ) where
 
     record-again : recordOf (write m ++ t) header (length (m .options), map pieceOf (m .packages)) ≡ m
     unfolding recordOf
-    record-again = rw (kept (m .flags) (any (m .packages)) (v .flags), packages-again (v .packages), run-part)
+    record-again = rw (kept (m .flags) (oneIfAny (m .packages)) (v .flags), packages-again (v .packages), run-part)
 
     pub message-again : message p (write m ++ t) ≡ good (m, length (write m))
     unfolding message

@@ -6,16 +6,16 @@ use borrow.Author.Tests.{le-ltb}
 use lib.ListN.{length}
 use Rattle.rules.specs.Outcome.{good, _>>=_, _>>_}
 use Rattle.rules.specs.Bytes.{Bytes, part}
-use Rattle.rules.specs.Message.{headerBytes, sizeable, head, Message, recordOf, message, parsed}
+use Rattle.rules.specs.Message.{headerBytes, notLarge, head, Message, recordOf, message, parsed}
 use Rattle.rules.specs.Reading.{header, optionRun}
 use Rattle.rules.specs.Buffer.{fitted}
 use Rattle.rules.specs.Writer.{written, writer}
 use Rattle.rules.specs.Clean.{clean, cleaner}
 use Rattle.rules.specs.Copy.{releasedOf, roomFor, answered, copy}
 use Rattle.rules.specs.Burst.{randomizing, opening, randomizer, opener}
-use Rattle.rules.specs.Claims.{BuffersKept, WrittenRead, AcceptedValid, ReadValid, ReadWritten, PartsWritten, CleanTwice, CleanExactly, PackageExactly, CutExactly, WalkShowsAll, WalkStays, GrantedExactly, Recurrence, BitPeriod, TableEntry, RandomizedTwice, TableHolds, SameCopies, DifferentCopies, CountsReleased, SequenceCounted, OneOutcome, partsOf}
+use Rattle.rules.specs.Claims.{BuffersKept, WrittenRead, AcceptedValid, ReadValid, ReadWritten, PartsWritten, WriterWrites, CleanerWrites, SpotOfRecord, CleanTwice, CleanExactly, PackageExactly, CutExactly, WalkShowsAll, WalkStays, GrantedExactly, Recurrence, BitPeriod, TableEntry, RandomizedTwice, RandomizedByte, BurstOpened, TableHolds, SameCopies, DifferentCopies, CountsReleased, SequenceCounted, ReleasedEach, CopyRead, CopyPlain, OneOutcome, partsOf}
 use Rattle.rules.proofs.Outcomes.{pass, step, stepped, good-inj}
-use Rattle.rules.proofs.Kept.{careful-stored, careful-answered, kept-randomized, kept-opened}
+use Rattle.rules.proofs.Kept.{careful-stored, careful-answered, kept-randomized, kept-opened, writes}
 use Rattle.rules.proofs.Cut as Cut
 use Rattle.rules.proofs.Passed.{passes}
 use Rattle.rules.proofs.RoundTrip as RoundTrip
@@ -25,8 +25,10 @@ use Rattle.rules.proofs.Walks.{walks-cut, stays}
 use Rattle.rules.proofs.Granted.{granted-exactly}
 use Rattle.rules.proofs.Sequence as Sequence
 use Rattle.rules.proofs.Table.{table}
-use Rattle.rules.proofs.Growing.{stamped-snoc}
-use Rattle.rules.proofs.Interference.{copy-is, delivered-is, same-list}
+use Rattle.rules.proofs.Growing.{stamped-snoc, released-append}
+use Rattle.rules.proofs.Interference.{copy-is, delivered-is, same-list, copy-read, copy-plain}
+use Rattle.rules.proofs.Spots.{of-record}
+use native.Mathlib.Nat.{zero-add}
 
 -- ---- demand 1
 
@@ -34,7 +36,7 @@ pub buffers-kept : BuffersKept
 unfolding writer cleaner copy randomizer opener
 buffers-kept = record {
   writer = λ d buffer. careful-stored buffer (written d >>= fitted buffer);
-  cleaner = λ s buffer. careful-stored buffer ((sizeable s >> clean s) >>= fitted buffer);
+  cleaner = λ s buffer. careful-stored buffer ((notLarge s >> clean s) >>= fitted buffer);
   copy = λ sheet recording buffer. careful-answered buffer (releasedOf sheet recording >>= roomFor buffer);
   randomizer = λ buffer. kept-randomized buffer (randomizing buffer);
   opener = λ buffer. kept-opened buffer (opening buffer);
@@ -74,6 +76,17 @@ parts-give-clean s b l m n e =
     let (r, q, z) = stepped _ _ e in
     ap written (parts-are s r l q) ∙ parts-written 0 s r b l (passes 0 s (head s) r q) ∙ sym (step _ _ q refl)
 
+pub writer-writes : WriterWrites
+unfolding writer
+writer-writes d buffer c e l = writes buffer c (written d) e l
+
+pub cleaner-writes : CleanerWrites
+unfolding cleaner
+cleaner-writes s buffer c h e l = writes buffer c (notLarge s >> clean s) (pass _ _ _ _ (le-ltb 65536 (length s) h) e) l
+
+pub spot-of-record : SpotOfRecord
+spot-of-record = of-record
+
 pub clean-twice : CleanTwice
 clean-twice = RoundTrip.clean-twice
 
@@ -107,6 +120,12 @@ table-entry = Sequence.byte-entry
 pub randomized-twice : RandomizedTwice
 randomized-twice = Sequence.randomized-twice 0
 
+pub randomized-byte : RandomizedByte
+randomized-byte s k h = rw zero-add at (Sequence.randomized-at 0 s k h)
+
+pub burst-opened : BurstOpened
+burst-opened = Sequence.burst-opened
+
 pub table-holds : TableHolds
 table-holds = table
 
@@ -126,6 +145,15 @@ counts-released sheet recording buffer es r l =
 
 pub sequence-counted : SequenceCounted
 sequence-counted = stamped-snoc
+
+pub released-each : ReleasedEach
+released-each = released-append
+
+pub copy-is-read : CopyRead
+copy-is-read = copy-read
+
+pub copy-is-plain : CopyPlain
+copy-is-plain = copy-plain
 
 -- ---- what a promise allows
 

@@ -6,7 +6,7 @@ use native.Mathlib.Nat.{div-div-eq-div-mul}
 use native.Mathlib.Omega.{arith}
 use lib.ListN.{length, take, drop, length-drop}
 use lib.Seq.{take-add, drop-cons, drop-drop, length-take-le}
-use Rattle.rules.specs.Bytes.{Bytes, at, half, word, put32, pad, part, any}
+use Rattle.rules.specs.Bytes.{Bytes, at, half, word, put32, pad, part, oneIfAny}
 use Rattle.rules.specs.Packages.{packageOf, pieceOf, Piece, Fills, none, more}
 use Rattle.rules.specs.Message.{head, front, recordOf}
 use Rattle.rules.specs.Writer.{write}
@@ -51,11 +51,11 @@ pieces-clean none b = refl
 pieces-clean (more {c = c} {s = s} h r) b = rw (piece-clean c h (bytes-left c s b), pieces-clean r (bytes-right c s b))
 
 -- there is a package exactly where the payload is not empty
-pub any-filled : {cs : List (List ℕ)} {s : List ℕ} → Fills cs s → any (map packageOf cs) ≡ any s
+pub any-filled : {cs : List (List ℕ)} {s : List ℕ} → Fills cs s → oneIfAny (map packageOf cs) ≡ oneIfAny s
 any-filled none = refl
 any-filled (more {c = c} {s = s} h r) = go c (omega (arith, h .least, h .whole))
   where
-    go : (l : List ℕ) → 1 ≤ length l → 1 ≡ any (l ++ s)
+    go : (l : List ℕ) → 1 ≤ length l → 1 ≡ oneIfAny (l ++ s)
     go [] q = absurd (omega arith)
     go (x ∷ l) q = refl
 
@@ -84,7 +84,7 @@ module _ (p : ℕ) (s : List ℕ) (r : ℕ × List (List ℕ)) (b : Bytes s) (w 
   unfolding write recordOf cleaned head
   write-read =
       rw (
-        flags-back (at s 3) (any (map packageOf (r .1))) (b .below 3) (w .fragment) (w .standard ∙ sym (any-filled fills)),
+        flags-back (at s 3) (oneIfAny (map packageOf (r .1))) (b .below 3) (w .fragment) (w .standard ∙ sym (any-filled fills)),
         pieces-clean fills payload-bytes,
         w .header .version,
         w .header .kind,

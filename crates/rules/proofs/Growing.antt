@@ -11,7 +11,7 @@ use Rattle.rules.specs.Packages.{Package}
 use Rattle.rules.specs.Message.{Message}
 use Rattle.rules.specs.Writer.{write}
 use Rattle.rules.specs.Sheet.{Row}
-use Rattle.rules.specs.Copy.{Entry, idOf, granteds, enter, released, count, stamp, stamped, rendered}
+use Rattle.rules.specs.Copy.{Entry, idOf, grantedPackages, enter, released, count, stamp, stamped, rendered}
 
 -- lists one behind the other
 pub join-append : (cs ds : List (List ℕ)) → join (cs ++ ds) ≡ join cs ++ join ds
@@ -34,7 +34,7 @@ released-append rs [] ns = refl
 released-append rs (m ∷ ms) ns = rw (released-append rs ms ns, enter-append)
 
 -- one message more: no entry, or one
-pub released-snoc : (rs : List Row) (ms : List Message) (m : Message) → released rs (ms ++ (m ∷ [])) ≡ released rs ms ++ enter m (granteds rs m (m .packages)) []
+pub released-snoc : (rs : List Row) (ms : List Message) (m : Message) → released rs (ms ++ (m ∷ [])) ≡ released rs ms ++ enter m (grantedPackages rs m (m .packages)) []
 unfolding released
 released-snoc rs ms m = released-append rs ms (m ∷ [])
 

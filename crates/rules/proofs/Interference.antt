@@ -1,25 +1,24 @@
 -- The copy depends on recording and sheet by their released list alone, and tells two released lists apart.
-use Prim.Native.Nat.{ℕ, _≤_, _<_}
+use Prim.Native.Nat.{ℕ, _+_, _*_, _/_, _%_, _≤_, _<_}
 use mathlib.Core.Path.{_≡_, refl, ap, sym, subst, _∙_}
-use mathlib.Core.List.{List, []}
+use mathlib.Core.List.{List, [], _∷_}
 use native.Mathlib.Omega.{arith}
 use borrow.Author.Tests.{le-ltb, lt-ltb, ltb-false}
-use lib.ListN.{length, take}
-use lib.Seq.{sets, sets-eq, take-append-seam}
+use lib.ListN.{length}
+use lib.Seq.{sets}
 use Rattle.rules.specs.Outcome.{good, ROOM}
 use Rattle.rules.specs.Bytes.{Bytes}
-use Rattle.rules.specs.Items.{items, All}
+use Rattle.rules.specs.Items.{items, All, all-nil, all-cons}
 use Rattle.rules.specs.Message.{Message, message, recording}
+use Rattle.rules.specs.Packages.{Package}
 use Rattle.rules.specs.Sheet.{Row}
 use Rattle.rules.specs.Valid.{Valid}
-use Rattle.rules.specs.Copy.{Entry, released, stamped, rendered, packagesIn, Answer, releasedOf, roomFor, answered, copy, delivered}
+use Rattle.rules.specs.Copy.{Entry, listedBits, grantedPackages, enter, released, count, stamp, stamped, rendered, packagesIn, Answer, releasedOf, roomFor, answered, copy, delivered}
+use Rattle.rules.specs.Claims.{Plain}
 use Rattle.rules.proofs.Outcomes.{pass, halt, step, passed, stepped, good-inj}
+use Rattle.rules.proofs.Kept.{take-sets}
 use Rattle.rules.proofs.RoundTrip.{all-written-read}
 use Rattle.rules.proofs.Released.{all-valid, entries, valid-stamped, stamped-injective}
-
--- a stored list is read back from the buffer
-take-sets : (b r : List ℕ) → length r ≤ length b → take (length r) (sets b 0 r) ≡ r
-take-sets b r l = rw (sets-eq r b 0 (omega arith), take-append-seam)
 
 -- the copy's messages are valid
 valid-released : (rs : List Row) (tape : List ℕ) (ms : List Message) → Bytes tape → recording tape ≡ good ms → All Valid (stamped [] (released rs ms))
@@ -64,3 +63,40 @@ same-list orders orders′ tape tape′ buffer buffer′ b b′ es es′ r r′ 
     let a = all-written-read (valid-list orders tape es r b) 0 in
     let a′ = all-written-read (valid-list orders′ tape′ es′ r′ b′) 0 in
     stamped-injective es es′ (good-inj (sym a ∙ ap (items message 0 0) q ∙ a′))
+
+-- the copy is read as the released list's messages
+pub copy-read : (orders tape buffer : List ℕ) (es : List Entry) → Bytes tape → releasedOf orders tape ≡ good es → length (rendered es) ≤ length buffer
+    → items message 0 0 (delivered (copy orders tape buffer)) ≡ good (stamped [] es)
+unfolding rendered
+copy-read orders tape buffer es b r l =
+    ap (items message 0 0) (delivered-is orders tape es r buffer l) ∙ all-written-read (valid-list orders tape es r b) 0
+
+-- each of those is plain: bits 3, 2 and 1 are all that is listed of the flags
+plain-stamp : (n : ℕ) (e : Entry) → e .flags % 2 ≡ 0 → e .flags < 16 → Plain (stamp n e)
+unfolding stamp
+plain-stamp n e h l = record { options = refl; playback = let g : (64 + e .flags) / 64 ≡ 1 = omega arith in rw g; end = omega arith }
+
+record Even (e : Entry) : Type 0 where
+  even : e .flags % 2 ≡ 0
+  small : e .flags < 16
+
+entered-even : (m : Message) (ps : List Package) {es : List Entry} → All Even es → All Even (enter m ps es)
+unfolding enter
+entered-even m [] a = a
+entered-even m (p ∷ ps) a =
+    let f : listedBits (m .flags) % 2 ≡ 0 = omega arith in
+    let g : listedBits (m .flags) < 16 = omega arith in
+    all-cons (record { even = f; small = g }) a
+
+released-even : (rows : List Row) (ms : List Message) → All Even (released rows ms)
+unfolding released
+released-even rows [] = all-nil
+released-even rows (m ∷ ms) = entered-even m (grantedPackages rows m (m .packages)) (released-even rows ms)
+
+stamped-plain : (seen : List ℕ) {es : List Entry} → All Even es → All Plain (stamped seen es)
+unfolding stamped
+stamped-plain seen all-nil = all-nil
+stamped-plain seen (all-cons {a = e} v a) = all-cons (plain-stamp (count (e .id) seen) e (v .even) (v .small)) (stamped-plain (e .id ∷ seen) a)
+
+pub copy-plain : (rows : List Row) (ms : List Message) → All Plain (stamped [] (released rows ms))
+copy-plain rows ms = stamped-plain [] (released-even rows ms)

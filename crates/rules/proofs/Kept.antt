@@ -1,16 +1,18 @@
 -- A refusal leaves a lent buffer as it was, and what is stored leaves what is behind it.
-use Prim.Native.Nat.{ℕ, zero, suc, _+_}
-use mathlib.Core.Path.{_≡_, refl, _∙_}
+use Prim.Native.Nat.{ℕ, suc, _+_, _≤_}
+use mathlib.Core.Path.{_≡_, refl, ap, _∙_}
 use mathlib.Core.List.{List, [], _∷_}
 use native.Mathlib.Nat.{zero-add, add-suc, suc-add}
 use native.Mathlib.Omega.{arith}
-use lib.ListN.{length, drop, set}
-use lib.Seq.{sets, length-sets, drop-set-lt}
-use Rattle.rules.specs.Outcome.{Outcome, good, bad}
-use Rattle.rules.specs.Buffer.{stored}
+use borrow.Author.Tests.{le-ltb}
+use lib.ListN.{length, take, drop, set}
+use lib.Seq.{sets, sets-eq, length-sets, drop-set-lt, take-append-seam}
+use Rattle.rules.specs.Outcome.{Outcome, good, bad, _>>=_}
+use Rattle.rules.specs.Buffer.{Written, fitted, stored}
 use Rattle.rules.specs.Copy.{Entry, rendered, answered}
 use Rattle.rules.specs.Burst.{randomizedAnswer, openedAnswer}
 use Rattle.rules.specs.Claims.{Careful}
+use Rattle.rules.proofs.Outcomes.{pass, step}
 
 drop-sets : (s b : List ℕ) (i : ℕ) → drop (i + length s) (sets b i s) ≡ drop (i + length s) b
 drop-sets [] b i = refl
@@ -44,3 +46,16 @@ pub kept-opened : (b : List ℕ) (o : Outcome (ℕ × List ℕ)) → (openedAnsw
 unfolding openedAnswer
 kept-opened b (good r) h = absurd (h refl)
 kept-opened b (bad n p) h = refl
+
+-- a stored list is read back from the buffer
+pub take-sets : (b r : List ℕ) → length r ≤ length b → take (length r) (sets b 0 r) ≡ r
+take-sets b r l = rw (sets-eq r b 0 (omega arith), take-append-seam)
+
+-- an outcome with room for it is stored
+pub writes : (b c : List ℕ) (o : Outcome (List ℕ)) → o ≡ good c → length c ≤ length b
+    → (stored b (o >>= fitted b) .0 ≡ record { number = 0; place = 0; bytes = length c }) × (take (length c) (stored b (o >>= fitted b) .1) ≡ c)
+unfolding stored fitted
+writes b c o e l =
+    let q : stored b (o >>= fitted b) ≡ (record { number = 0; place = 0; bytes = length c }, sets b 0 c) =
+    ap (stored b) (step _ _ e (pass _ _ _ _ (le-ltb (length b) (length c) l) refl)) in
+    (ap (λ (r : Written × List ℕ). r .0) q, ap (λ (r : Written × List ℕ). take (length c) (r .1)) q ∙ take-sets b c l)

@@ -15,6 +15,7 @@ pub mod Released
 pub mod Interference
 pub mod Kept
 pub mod Apart
+pub mod Spots
 pub mod Granted
 pub mod Claims
 pub mod Rows

@@ -5,7 +5,7 @@ use mathlib.Core.List.{List}
 use borrow.Author.Tests.{ltb-false, eqb-true, not-false}
 use lib.ListN.{length}
 use Rattle.rules.specs.Outcome.{good}
-use Rattle.rules.specs.Bytes.{part, any}
+use Rattle.rules.specs.Bytes.{part, oneIfAny}
 use Rattle.rules.specs.Options.{run}
 use Rattle.rules.specs.Packages.{cut}
 use Rattle.rules.specs.Message.{Head, front, checked, runLength, framed, parsed}
@@ -46,7 +46,7 @@ pub record Passed (p : ℕ) (s : List ℕ) (h : Head) (r : ℕ × List (List ℕ
   pub header : Sound s h
   pub options : run zero (p + 24) zero (part 24 (front h) s) ≡ good (r .0)
   pub fragment : h .flags / 16 % 4 ≡ 0
-  pub standard : h .flags / 128 % 2 ≡ any (part (front h) (h .size) s)
+  pub standard : h .flags / 128 % 2 ≡ oneIfAny (part (front h) (h .size) s)
   pub packages : cut (p + front h) (part (front h) (h .size) s) ≡ good (r .1)
 
 pub passes : (p : ℕ) (s : List ℕ) (h : Head) (r : ℕ × List (List ℕ)) → parsed p s h ≡ good r → Passed p s h r

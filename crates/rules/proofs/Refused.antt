@@ -5,7 +5,7 @@ use mathlib.Core.Logic.{_↔_}
 use mathlib.Core.List.{List}
 use borrow.Author.Tests.{eq-eqb}
 use Rattle.rules.specs.Outcome.{Outcome, good, bad, PACKAGE}
-use Rattle.rules.specs.Bytes.{any}
+use Rattle.rules.specs.Bytes.{oneIfAny}
 use Rattle.rules.specs.Packages.{cut, Fills}
 use Rattle.rules.specs.Message.{standardBit, fragmentBits, head, front, payload, framed, parsed, recordOf, message}
 use Rattle.rules.specs.Claims.{PassesToNine}
@@ -17,7 +17,7 @@ module _ (p : ℕ) (s : List ℕ) (b : PassesToNine p s) where
   unfolding framed
   framed-as e =
       pass _ _ _ _ (rw (eq-eqb (fragmentBits (head s .flags)) 0 (b .whole)))
-      (pass _ _ _ _ (rw (eq-eqb (standardBit (head s .flags)) (any (payload s (head s))) (b .standard))) e)
+      (pass _ _ _ _ (rw (eq-eqb (standardBit (head s .flags)) (oneIfAny (payload s (head s))) (b .standard))) e)
 
   -- the message is read if its payload is cut, and refused as the cut is
   made : (cs : List (List ℕ)) → cut (p + front (head s)) (payload s (head s)) ≡ good cs → message p s ≡ good (recordOf s (head s) (b .run, cs), head s .size)

@@ -14,8 +14,8 @@ use Rattle.rules.specs.Packages.{packageFits, piece, packageOf, pieceOf}
 use Rattle.rules.specs.Message.{head, checked, runLength, framed, parsed, recordOf, message, recording}
 use Rattle.rules.specs.Writer.{write}
 use Rattle.rules.specs.Reading.{header, optionRun}
-use Rattle.rules.specs.Sheet.{number, rowOf, rowFits, row, sheet, grants}
-use Rattle.rules.specs.Copy.{granted, granteds, enter, released, count, stamp, stamped, rendered, packagesIn, releasedOf, roomFor, answered, copy}
+use Rattle.rules.specs.Sheet.{bigEndian, rowOf, rowFits, row, sheet, grants}
+use Rattle.rules.specs.Copy.{granted, grantedPackages, enter, released, count, stamp, stamped, rendered, packagesIn, releasedOf, roomFor, answered, copy}
 use Rattle.rules.specs.Burst.{bits, byteOf, sequenceByte}
 use Rattle.rules.specs.Table.{Table}
 use Rattle.rules.proofs.Outcomes.{pass, halt, stop, stop-before}
@@ -31,7 +31,7 @@ short s l =
     (stop _ _ (stop _ _ (stop-before _ _ (halt _ _ _ _ (lt-ltb (length s) 24 (omega arith)))))))
 
 pub table : Table
-unfolding refuse _>>_ _>>=_ _∷>_ half word items sized optionSize optionFits run packageFits piece packageOf pieceOf head checked runLength framed parsed recordOf message recording header optionRun write number rowOf rowFits row sheet grants granted granteds enter released count stamp stamped rendered packagesIn releasedOf roomFor answered copy bits byteOf sequenceByte
+unfolding refuse _>>_ _>>=_ _∷>_ half word items sized optionSize optionFits run packageFits piece packageOf pieceOf head checked runLength framed parsed recordOf message recording header optionRun write bigEndian rowOf rowFits row sheet grants granted grantedPackages enter released count stamp stamped rendered packagesIn releasedOf roomFor answered copy bits byteOf sequenceByte
 table = record {
   P1 = λ buffer. rw (leb·suc-zero (length buffer));
   P2 = short;

@@ -12,7 +12,7 @@ fitted buffer s = do
   refuse (ltb (length buffer) (length s)) ROOM (length s)
   good s
 
--- number and place of a refusal, and the bytes written; zero otherwise
+-- what writer and cleaner report: number and place, both 0 on success, and the bytes written, 0 on a refusal
 pub record Written : Type 0 where
   pub number : ℕ
   pub place : ℕ

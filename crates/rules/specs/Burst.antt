@@ -7,7 +7,7 @@ use lib.Dec.{leb, eqb}
 use lib.ListN.{length, take, drop, replicate}
 use Rattle.rules.specs.Outcome.{Outcome, good, bad, refuse, _>>_, MARKER, BLOCKS}
 use Rattle.rules.specs.Bytes.{at, word}
-use Rattle.rules.specs.Message.{sizeable}
+use Rattle.rules.specs.Message.{notLarge}
 
 infixl 6 _xor_
 abbrev pub _xor_ : ℕ → ℕ → ℕ
@@ -51,7 +51,7 @@ randomized k (x ∷ s) = (x xor sequenceByte k) ∷ randomized (suc k) s
 -- a buffer randomized, byte k with sequence byte k
 unfoldable pub randomizing : List ℕ → Outcome (List ℕ)
 randomizing s = do
-  sizeable s
+  notLarge s
   good (randomized 0 s)
 
 -- what a burst begins with
@@ -79,7 +79,7 @@ blocksFit n = leb 1 (codeblocks n) && leb (codeblocks n) mostBlocks && eqb ((n -
 -- a burst opened: how many codeblocks it has, and its bytes with the codeblocks randomized, the sequence starting once behind the marker
 unfoldable pub opening : List ℕ → Outcome (ℕ × List ℕ)
 opening s = do
-  sizeable s
+  notLarge s
   refuse (not (marked s)) MARKER 0
   refuse (not (blocksFit (length s))) BLOCKS (length s)
   good (codeblocks (length s), take (length marker) s ++ randomized 0 (drop (length marker) s))

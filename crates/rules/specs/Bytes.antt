@@ -42,6 +42,6 @@ join [] = []
 join (c ∷ cs) = c ++ join cs
 
 -- 0 for the empty list, 1 for any other
-abbrev pub any : {A : Type 0} → List A → ℕ
-any [] = 0
-any (x ∷ xs) = 1
+abbrev pub oneIfAny : {A : Type 0} → List A → ℕ
+oneIfAny [] = 0
+oneIfAny (x ∷ xs) = 1

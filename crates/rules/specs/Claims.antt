@@ -1,23 +1,24 @@
 -- The demands as statements, to be read without any proof. proofs/Claims.antt proves each; docs/PROMISES.md says which function's promise makes it speak of the code.
-use Prim.Native.Nat.{ℕ, _+_, _*_, _%_, _≤_}
+use Prim.Native.Nat.{ℕ, _+_, _*_, _/_, _%_, _≤_, _<_}
 use mathlib.Core.Path.{_≡_}
 use mathlib.Core.Logic.{_↔_}
 use mathlib.Core.Bool.{true}
 use mathlib.Core.List.{List, [], _∷_, _++_, map}
 use mathlib.Core.Option.{some}
-use lib.ListN.{length, getD, drop}
+use lib.ListN.{length, getD, take, drop}
 use Rattle.rules.specs.Outcome.{good, bad, PACKAGE}
-use Rattle.rules.specs.Bytes.{Bytes, any}
+use Rattle.rules.specs.Bytes.{Bytes, part, oneIfAny}
+use Rattle.rules.specs.Items.{items, All}
 use Rattle.rules.specs.Packages.{Package, cut, packageOf, Fills}
-use Rattle.rules.specs.Message.{mostBytes, Head, head, payload, fragmentBits, standardBit, runLength, Message, message}
-use Rattle.rules.specs.Reading.{optionRun}
+use Rattle.rules.specs.Message.{headerBytes, mostBytes, Head, head, front, payload, recordBits, fragmentBits, standardBit, runLength, Message, message}
+use Rattle.rules.specs.Reading.{optionRun, MessageSpot, messageAt}
 use Rattle.rules.specs.Walk.{PackageSpot, packageAt, dataAt, nextAt, Walks}
 use Rattle.rules.specs.Writer.{write, Draft, accepted, written, writer}
 use Rattle.rules.specs.Clean.{clean, cleaner}
 use Rattle.rules.specs.Valid.{Valid, DraftFits}
 use Rattle.rules.specs.Sheet.{Row}
-use Rattle.rules.specs.Copy.{granted, Entry, idOf, count, stamp, stamped, rendered, packagesIn, releasedOf, copy, delivered}
-use Rattle.rules.specs.Burst.{_xor_, bit, sequenceByte, sequenceBytes, randomized, randomizer, opener}
+use Rattle.rules.specs.Copy.{granted, Entry, idOf, released, count, stamp, stamped, rendered, packagesIn, releasedOf, copy, delivered}
+use Rattle.rules.specs.Burst.{_xor_, bit, sequenceByte, sequenceBytes, randomized, randomizer, opening, opener}
 use Rattle.rules.specs.Table.{Table}
 
 -- ---- Demand 1: a refusal changes no byte of the caller's buffers, and what is written changes none behind it.
@@ -67,6 +68,15 @@ partsOf s h = record {
 abbrev pub PartsWritten : Type 0
 PartsWritten = (s : List ℕ) → Bytes s → length s ≤ mostBytes → (m : Message) (n : ℕ) → message 0 s ≡ good (m, n) → written (partsOf s (head s)) ≡ clean s
 
+-- With room, writer and cleaner write: the buffer's first so many bytes are what was written.
+abbrev pub WriterWrites : Type 0
+WriterWrites = (d : Draft) (buffer c : List ℕ) → written d ≡ good c → length c ≤ length buffer
+    → (writer d buffer .0 ≡ record { number = 0; place = 0; bytes = length c }) × (take (length c) (writer d buffer .1) ≡ c)
+
+abbrev pub CleanerWrites : Type 0
+CleanerWrites = (s buffer c : List ℕ) → length s ≤ mostBytes → clean s ≡ good c → length c ≤ length buffer
+    → (cleaner s buffer .0 ≡ record { number = 0; place = 0; bytes = length c }) × (take (length c) (cleaner s buffer .1) ≡ c)
+
 -- Cleaning twice changes nothing more, whatever follows the message.
 abbrev pub CleanTwice : Type 0
 CleanTwice = (s c behind : List ℕ) → Bytes s → length s ≤ mostBytes → Bytes behind → clean s ≡ good c → clean (c ++ behind) ≡ good c
@@ -76,12 +86,29 @@ abbrev pub CleanExactly : Type 0
 CleanExactly = (s t : List ℕ) → Bytes s → Bytes t → length s ≤ mostBytes → length t ≤ mostBytes → (m l : Message) (n k : ℕ)
     → message 0 s ≡ good (m, n) → message 0 t ≡ good (l, k) → (clean s ≡ clean t) ↔ (m ≡ l)
 
+-- What is told of a message in a recording is told of its record.
+pub record OfRecord (s : List ℕ) (p : ℕ) (k : MessageSpot) : Type 0 where
+  pub held : Message
+  pub read : message p (drop p s) ≡ good (held, k .head .size)
+  pub flags : recordBits (k .head .flags) ≡ held .flags
+  pub id : k .head .id ≡ held .id
+  pub sequence : k .head .sequence ≡ held .sequence
+  pub seconds : k .head .seconds ≡ held .seconds
+  pub nanos : k .head .nanos ≡ held .nanos
+  pub options : part headerBytes (headerBytes + k .run) (drop p s) ≡ held .options
+  pub packages : k .packages ≡ length (held .packages)
+  pub payload : k .payload ≡ p + front (k .head)
+  pub next : k .next ≡ p + k .head .size
+
+abbrev pub SpotOfRecord : Type 0
+SpotOfRecord = (s : List ℕ) (p : ℕ) (k : MessageSpot) → messageAt s p ≡ good k → OfRecord s p k
+
 -- A payload is refused as PACKAGE exactly if no cut into packages fills it. The message at the start of s has passed checks 1 to 9.
 pub record PassesToNine (p : ℕ) (s : List ℕ) : Type 0 where
   pub run : ℕ
   pub options : runLength p s (head s) ≡ good run
   pub whole : fragmentBits (head s .flags) ≡ 0
-  pub standard : standardBit (head s .flags) ≡ any (payload s (head s))
+  pub standard : standardBit (head s .flags) ≡ oneIfAny (payload s (head s))
 
 abbrev pub PackageExactly : Type 0
 PackageExactly = (p : ℕ) (s : List ℕ) → PassesToNine p s
@@ -130,6 +157,14 @@ TableEntry = (k : ℕ) → sequenceByte k ≡ getD (sequenceBytes 0 255) (k % 25
 abbrev pub RandomizedTwice : Type 0
 RandomizedTwice = (s : List ℕ) → randomized 0 (randomized 0 s) ≡ s
 
+-- Randomizing exclusive-ors byte k with sequence byte k. In a burst the sequence starts once behind the marker, which stays, and runs on to the end.
+abbrev pub RandomizedByte : Type 0
+RandomizedByte = (s : List ℕ) (k : ℕ) → k < length s → getD (randomized 0 s) k 0 ≡ getD s k 0 xor sequenceByte k
+
+abbrev pub BurstOpened : Type 0
+BurstOpened = (s after : List ℕ) (blocks : ℕ) → opening s ≡ good (blocks, after)
+    → (take 8 after ≡ take 8 s) × (drop 8 after ≡ randomized 0 (drop 8 s)) × (8 + blocks * 768 ≡ length s)
+
 -- The numbers to check by, P1 to P12.
 abbrev pub TableHolds : Type 0
 TableHolds = Table
@@ -155,6 +190,24 @@ CountsReleased = (sheet recording buffer : List ℕ) (es : List Entry) → relea
 -- The sequence number of an entry's message is how many of the entries before it have its message id.
 abbrev pub SequenceCounted : Type 0
 SequenceCounted = (before : List Entry) (e : Entry) → stamped [] (before ++ (e ∷ [])) ≡ stamped [] before ++ (stamp (count (e .id) (map idOf before)) e ∷ [])
+
+-- The released list goes message by message: what a message releases depends on no other.
+abbrev pub ReleasedEach : Type 0
+ReleasedEach = (rows : List Row) (ms ns : List Message) → released rows (ms ++ ns) ≡ released rows ms ++ released rows ns
+
+-- The copy is its messages, one behind the other, and is read as such.
+abbrev pub CopyRead : Type 0
+CopyRead = (sheet recording buffer : List ℕ) (es : List Entry) → Bytes recording → releasedOf sheet recording ≡ good es → length (rendered es) ≤ length buffer
+    → items message 0 0 (delivered (copy sheet recording buffer)) ≡ good (stamped [] es)
+
+-- Each of them has no options, playback set, and end of data not set.
+pub record Plain (m : Message) : Type 0 where
+  pub options : m .options ≡ []
+  pub playback : m .flags / 64 % 2 ≡ 1
+  pub end : m .flags % 2 ≡ 0
+
+abbrev pub CopyPlain : Type 0
+CopyPlain = (rows : List Row) (ms : List Message) → All Plain (stamped [] (released rows ms))
 
 -- ---- What a promise allows: where `told` tells answers apart, any two answers that a promise `told r ≡ d` allows are identical.
 

@@ -5,7 +5,7 @@ use lib.ListN.{length, replicate}
 use Rattle.rules.specs.Outcome.{Outcome, good, _>>_, _>>=_}
 use Rattle.rules.specs.Bytes.{at, put32, padded, part, join}
 use Rattle.rules.specs.Packages.{packageLength}
-use Rattle.rules.specs.Message.{headerBytes, sizeable, head, parsed}
+use Rattle.rules.specs.Message.{headerBytes, notLarge, head, parsed}
 use Rattle.rules.specs.Buffer.{Written, stored, fitted}
 
 -- a package's own bytes with the reserved byte and the padding zero
@@ -29,4 +29,4 @@ clean s = do
 
 -- the cleaner's answer, and the buffer after it; what follows the first message is ignored
 unfoldable pub cleaner : List ℕ → List ℕ → Written × List ℕ
-cleaner s buffer = stored buffer ((sizeable s >> clean s) >>= fitted buffer)
+cleaner s buffer = stored buffer ((notLarge s >> clean s) >>= fitted buffer)

@@ -33,9 +33,9 @@ abbrev pub idOf : Entry → ℕ
 idOf e = e .id
 
 -- the granted ones of the packages of m, in order
-unfoldable pub granteds : List Row → Message → List Package → List Package
-granteds rs m [] = []
-granteds rs m (p ∷ ps) = elim (granted rs m p) [ true ↦ p ∷ granteds rs m ps | false ↦ granteds rs m ps ]
+unfoldable pub grantedPackages : List Row → Message → List Package → List Package
+grantedPackages rs m [] = []
+grantedPackages rs m (p ∷ ps) = elim (granted rs m p) [ true ↦ p ∷ grantedPackages rs m ps | false ↦ grantedPackages rs m ps ]
 
 -- the entries es of the messages behind m, with one for m in front if it has a granted package
 unfoldable pub enter : Message → List Package → List Entry → List Entry
@@ -45,7 +45,7 @@ enter m (p ∷ ps) es = record { id = m .id; seconds = m .seconds; nanos = m .na
 -- the released list, in recording order
 unfoldable pub released : List Row → List Message → List Entry
 released rs [] = []
-released rs (m ∷ ms) = enter m (granteds rs m (m .packages)) (released rs ms)
+released rs (m ∷ ms) = enter m (grantedPackages rs m (m .packages)) (released rs ms)
 
 -- how often x stands in l
 unfoldable pub count : ℕ → List ℕ → ℕ
@@ -69,6 +69,7 @@ stamped seen (e ∷ es) = stamp (count (e .id) seen) e ∷ stamped (e .id ∷ se
 unfoldable pub rendered : List Entry → List ℕ
 rendered es = join (map write (stamped [] es))
 
+-- how many packages the entries have
 unfoldable pub packagesIn : List Entry → ℕ
 packagesIn [] = 0
 packagesIn (e ∷ es) = length (e .packages) + packagesIn es
@@ -83,9 +84,9 @@ pub record Answer : Type 0 where
 
 -- the released list of a recording under a sheet, if both pass
 unfoldable pub releasedOf : List ℕ → List ℕ → Outcome (List Entry)
-releasedOf orders tape = do
-  rs ← sheet orders
-  ms ← recording tape
+releasedOf sheetBytes recordingBytes = do
+  rs ← sheet sheetBytes
+  ms ← recording recordingBytes
   good (released rs ms)
 
 -- the released list, if the buffer has room for its copy
@@ -102,7 +103,7 @@ answered buffer (good es) =
 
 -- the copy of a recording under the bytes of a sheet
 unfoldable pub copy : List ℕ → List ℕ → List ℕ → Answer × List ℕ
-copy orders tape buffer = answered buffer (releasedOf orders tape >>= roomFor buffer)
+copy sheetBytes recordingBytes buffer = answered buffer (releasedOf sheetBytes recordingBytes >>= roomFor buffer)
 
 -- the copy itself: the buffer's first so many bytes
 abbrev pub delivered : Answer × List ℕ → List ℕ

@@ -3,8 +3,8 @@ use Prim.Native.Nat.{ℕ, zero, suc, _-_}
 use mathlib.Core.List.{List, [], _∷_}
 use Rattle.rules.specs.Outcome.{Outcome, good, _>>=_, _∷>_}
 
--- The items of a list that stands at place p. `read` reads the item at the start of a list that stands at a place, and says how many bytes it takes.
--- The number before p counts the bytes of the item before that are still to pass
+-- `items read k p s`: s stands at place p, and its first k bytes belong to the item before. `read` reads the item at the start of a list that stands
+-- at a place, and says how many bytes it takes. No item reaches over the end (packages and messages by their own checks, rows by the sheet's size)
 unfoldable pub items : {A : Type 0} → (ℕ → List ℕ → Outcome (A × ℕ)) → ℕ → ℕ → List ℕ → Outcome (List A)
 items read k p [] = good []
 items read (suc k) p (x ∷ xs) = items read k (suc p) xs

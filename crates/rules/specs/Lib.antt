@@ -1,4 +1,4 @@
--- The rules of document 01 as definitions over lists of bytes, in its order: every promise cites them, and the laws are proved of them.
+-- The rules of document 01 as definitions over lists of bytes. Each file builds on those before it, and its head names the paragraph that it condenses.
 pub mod Outcome
 pub mod Bytes
 pub mod Items

@@ -5,7 +5,7 @@ use mathlib.Core.List.{List, map}
 use lib.Dec.{ltb, eqb}
 use lib.ListN.{length}
 use Rattle.rules.specs.Outcome.{Outcome, good, refuse, _>>_, _>>=_, SHORT, VERSION, TYPE, LENGTH, CUT, TIME, FRAGMENT, STANDARD, LARGE}
-use Rattle.rules.specs.Bytes.{at, word, part, any}
+use Rattle.rules.specs.Bytes.{at, word, part, oneIfAny}
 use Rattle.rules.specs.Items.{items}
 use Rattle.rules.specs.Options.{run}
 use Rattle.rules.specs.Packages.{Package, cut, packageOf}
@@ -20,9 +20,9 @@ mostNanos = 999999999
 abbrev pub mostBytes : ℕ
 mostBytes = 65536
 
--- an input of more bytes is refused before anything else
-abbrev pub sizeable : List ℕ → Outcome (Unit {0})
-sizeable s = refuse (ltb mostBytes (length s)) LARGE mostBytes
+-- LARGE: an input of more bytes is refused before anything else
+abbrev pub notLarge : List ℕ → Outcome (Unit {0})
+notLarge s = refuse (ltb mostBytes (length s)) LARGE mostBytes
 
 -- the numbers of a header: words is the option word count W, kind the type, flags the flag bits 7 to 0, and size the length
 pub record Head : Type 0 where
@@ -88,7 +88,7 @@ runLength p s h = do
 unfoldable pub framed : ℕ → List ℕ → Head → Outcome (List (List ℕ))
 framed p s h = do
   refuse (not (eqb (fragmentBits (h .flags)) 0)) FRAGMENT p
-  refuse (not (eqb (standardBit (h .flags)) (any (payload s h)))) STANDARD p
+  refuse (not (eqb (standardBit (h .flags)) (oneIfAny (payload s h)))) STANDARD p
   cut (p + front h) (payload s h)
 
 -- checks 1 to 10: the length of its option run, and the pieces
@@ -129,5 +129,5 @@ message p s = do
 -- the messages of a recording
 unfoldable pub recording : List ℕ → Outcome (List Message)
 recording s = do
-  sizeable s
+  notLarge s
   items message zero zero s

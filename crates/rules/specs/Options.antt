@@ -31,8 +31,8 @@ optionSize o = elim (ltb (at o 0) 0x80) [ true ↦ 1 | false ↦ at o 1 ]
 unfoldable pub optionFits : List ℕ → Bool
 optionFits o = ltb (at o 0) 0x80 || (sized (at o 0) (at o 1) && leb (at o 1) (length o))
 
--- How long the option run is of which n bytes have passed and the rest is still to come; it began at place p. An option of kind 0x00 ends it.
--- The number before p counts the bytes of the option before that are still to pass: a zero among them ends nothing
+-- `run k p n o`, how long the option run is: o is what is left of the option bytes, which began at place p, and n of them have passed. An option of
+-- kind 0x00 ends the run. The first k bytes of o belong to the option before, and a zero among them ends nothing
 unfoldable pub run : ℕ → ℕ → ℕ → List ℕ → Outcome ℕ
 run k p n [] = good n
 run (suc k) p n (x ∷ xs) = run k p (suc n) xs

@@ -1,4 +1,5 @@
--- Document 01, 'Refusal numbers': what a reading comes to is a value, or a refusal by its number and its place.
+-- Document 01, 'Refusal numbers': what a reading comes to. `good` is success, number 0 at place 0, with a value; `bad` is a refusal by its number
+-- and its place, with every other number zero and every shown part empty.
 use Prim.Native.Nat.{ℕ}
 use mathlib.Core.Bool.{Bool, true, false}
 use mathlib.Core.List.{List, _∷_}

@@ -4,12 +4,12 @@ use mathlib.Core.List.{List, [], _∷_}
 use lib.ListN.{length, drop}
 use Rattle.rules.specs.Outcome.{Outcome, good, bad, _>>_, _>>=_}
 use Rattle.rules.specs.Bytes.{part}
-use Rattle.rules.specs.Message.{headerBytes, sizeable, Head, head, front, runLength, parsed, Message, recording}
+use Rattle.rules.specs.Message.{headerBytes, notLarge, Head, head, front, runLength, parsed, Message, recording}
 
 -- a header alone, read with 12 and 1 to 7; and how long its option run is
 unfoldable pub header : List ℕ → Outcome (Head × ℕ)
 header s = do
-  sizeable s
+  notLarge s
   n ← runLength zero s (head s)
   good (head s, n)
 
@@ -42,15 +42,16 @@ messageSpot p h r = record { head = h; run = r .0; payload = p + front h; next =
 -- the message at place p of a recording, read with 12 and 1 to 10
 unfoldable pub messageAt : List ℕ → ℕ → Outcome MessageSpot
 messageAt s p = do
-  sizeable s
+  notLarge s
   r ← parsed p (drop p s) (head (drop p s))
   good (messageSpot p (head (drop p s)) r)
 
--- a recording checked: how many messages and packages it has
+-- how many packages the messages have
 unfoldable pub packagesOf : List Message → ℕ
 packagesOf [] = 0
 packagesOf (m ∷ ms) = length (m .packages) + packagesOf ms
 
+-- a recording checked: how many messages and packages it has
 unfoldable pub counted : List ℕ → Outcome (ℕ × ℕ)
 counted s = do
   ms ← recording s

@@ -10,9 +10,9 @@ use Rattle.rules.specs.Packages.{instant}
 use Rattle.rules.specs.Message.{mostNanos}
 
 -- the number n, followed by the digits s at base 256
-unfoldable pub number : ℕ → List ℕ → ℕ
-number n [] = n
-number n (x ∷ s) = number (n * 256 + x) s
+unfoldable pub bigEndian : ℕ → List ℕ → ℕ
+bigEndian n [] = n
+bigEndian n (x ∷ s) = bigEndian (n * 256 + x) s
 
 -- the bytes of a row, and the most rows of a sheet
 abbrev pub rowBytes : ℕ
@@ -56,7 +56,7 @@ rowFits r =
 -- the row at the start of s, which stands at place p; and how long it is
 unfoldable pub row : ℕ → List ℕ → Outcome (Row × ℕ)
 row p s = do
-  let r = rowOf (number 0 (take rowBytes s))
+  let r = rowOf (bigEndian 0 (take rowBytes s))
   refuse (not (rowFits r)) ROW p
   good (r, rowBytes)
 

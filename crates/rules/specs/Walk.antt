@@ -9,7 +9,7 @@ use lib.ListN.{length, drop}
 use Rattle.rules.specs.Outcome.{Outcome, good, bad, _>>_, _>>=_}
 use Rattle.rules.specs.Bytes.{at, word, part}
 use Rattle.rules.specs.Packages.{Package, packageHeader, packageLength, piece}
-use Rattle.rules.specs.Message.{sizeable}
+use Rattle.rules.specs.Message.{notLarge}
 
 -- a package where it stands in a run: its numbers, where its data begin and end, and the place behind its padding
 pub record PackageSpot : Type 0 where
@@ -36,7 +36,7 @@ packageSpot p c n = record {
 -- what a step finds at place p of the run s: LARGE, the end, PACKAGE, or a package
 unfoldable pub packageAt : List ℕ → ℕ → Outcome (Option PackageSpot)
 packageAt s p = do
-  sizeable s
+  notLarge s
   elim (leb (length s) p) [
     | true ↦ good none
     | false ↦ do

@@ -4,7 +4,7 @@ use mathlib.Core.List.{List, _∷_, _++_, map}
 use lib.Dec.{ltb}
 use lib.ListN.{length}
 use Rattle.rules.specs.Outcome.{Outcome, good, refuse, _>>_, _>>=_, LARGE, TIME, OPTION}
-use Rattle.rules.specs.Bytes.{put32, pad, padded, join, any}
+use Rattle.rules.specs.Bytes.{put32, pad, padded, join, oneIfAny}
 use Rattle.rules.specs.Options.{mostOptionBytes, run}
 use Rattle.rules.specs.Packages.{cut, packageOf, pieceOf}
 use Rattle.rules.specs.Message.{headerBytes, mostNanos, mostBytes, recordBits, Message}
@@ -15,7 +15,7 @@ unfoldable pub write : Message → List ℕ
 write m =
     let options = padded (m .options) in
     let payload = join (map pieceOf (m .packages)) in
-    (1 * 16 + length options / 4) ∷ 0 ∷ 0 ∷ (m .flags + any (m .packages) * 128)
+    (1 * 16 + length options / 4) ∷ 0 ∷ 0 ∷ (m .flags + oneIfAny (m .packages) * 128)
     ∷ put32 (m .id) (put32 (m .sequence) (put32 (headerBytes + length options + length payload)
     (put32 (m .seconds) (put32 (m .nanos) (options ++ payload)))))
 

@@ -12,7 +12,7 @@ use native.Mathlib.Numerals.{add-one}
 use Rattle.rules.specs.Outcome.{good, bad, ROW}
 use Rattle.rules.specs.Bytes.{Bytes, word}
 use Rattle.rules.specs.Sheet as rules
-use Rattle.rules.specs.Sheet.{number, rowOf, rowFits, sheetRows, shownRows}
+use Rattle.rules.specs.Sheet.{bigEndian, rowOf, rowFits, sheetRows, shownRows}
 use Rattle.rules.specs.Packages.{instant}
 use Rattle.rules.proofs.Outcomes.{pass, halt, step, stop}
 use Rattle.rules.proofs.Growing.{map-append}
@@ -65,7 +65,7 @@ spared r h = rw (ne-eqb _ _ h, and-no)
 -- the row at the start of s
 module _ (s : List ℕ) (l : 32 ≤ length s) (b : Bytes s) where
   abbrev found : rules.Row
-  found = rowOf (number 0 (take 32 s))
+  found = rowOf (bigEndian 0 (take 32 s))
 
   refused : rowFits found ≡ false → ReadsRow s Bad
   unfolding rules.row

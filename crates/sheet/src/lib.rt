@@ -2,8 +2,7 @@
 // checker does not cover: some_row_grants, in_first and in_few are proved by hand. Whoever calls in_sheet passes an array by value, and is covered.
 ghost use mathlib.Core.Path.{_≡_};
 ghost use Prim.Native.Nat.{_≤_};
-ghost use lib.ListN.{take};
-ghost use lib.ListN.{length};
+ghost use lib.ListN.{length, take};
 ghost use Rattle.rules.specs.Sheet.{rowFits, grants, sheetRows};
 ghost use Rattle.rules.specs.Packages.{instant};
 ghost use Rattle.rules.specs.Outcome.{bad, ROW};
@@ -143,6 +142,7 @@ fn refuse(place: usize) -> SheetRead
     }
 }
 
+// The rows of a sheet. Its size is looked at before any row.
 pub fn read_sheet(s: &[u8]) -> SheetRead
     ensures { λ r. ⌜ told r ≡ answer (sheetRows (now (s .entry))) ⌝ }
 {

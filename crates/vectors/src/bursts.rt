@@ -61,7 +61,7 @@ pub fn bursts() {
     opened(&mut burst);
     crate::number(others(&burst[8..1544], 0));
     crate::end();
-    // A marker alone: BLOCKS at 8. Seven bytes of it: b"\x03\x47\x76\xC7\x27\x28\x95\xB0" at 0.
+    // A marker alone: BLOCKS at 8. Seven bytes of it: MARKER at 0.
     let mut marker = [0u8; 8];
     crate::copy(b"\x03\x47\x76\xC7\x27\x28\x95\xB0", &mut marker);
     opened(&mut marker);

@@ -72,7 +72,7 @@ pub fn next<'a>(w: Walk<'a>) -> Shown<'a>
     Shown { walk, step, bytes }
 }
 
-// What the first step of a walk finds: its parameter is a plain slice, so whoever calls it needs no walk.
+// What the first step of a walk finds: its parameter is a plain slice, so the borrow checker covers whoever calls it.
 pub fn first(run: &[u8]) -> PackageRead
     ensures { λ r. ⌜ toldPackage r ≡ packageAt (now (run .entry)) 0 ⌝ }
 {
