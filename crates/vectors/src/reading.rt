@@ -42,10 +42,10 @@ fn checked(s: &[u8]) {
 }
 
 pub fn reading() {
-    let m = crate::M;
+    let m = crate::message_m();
     header(&m);
     // P7: the option run is the first 6 bytes; with 05 for 06, OPTION at 24.
-    let mut n = crate::N;
+    let mut n = crate::message_n();
     header(&n);
     n[25] = 0x05;
     header(&n);

@@ -4,40 +4,18 @@ use sheet::SheetAnswer;
 use sheet::Time;
 
 // Row R of document 01: ids 7 to 7, 1 to 1, from 100 s to 101 s.
-const R: [u8; 32] = [
-    0x00,
-    0x00,
-    0x00,
-    0x07,
-    0x00,
-    0x00,
-    0x00,
-    0x07,
-    0x00,
-    0x00,
-    0x00,
-    0x01,
-    0x00,
-    0x00,
-    0x00,
-    0x01,
-    0x00,
-    0x00,
-    0x00,
-    0x64,
-    0x00,
-    0x00,
-    0x00,
-    0x00,
-    0x00,
-    0x00,
-    0x01,
-    0x94,
-    0x00,
-    0x00,
-    0x00,
-    0x00,
-];
+fn row_r() -> [u8; 32] {
+    let mut r = [0u8; 32];
+    wire::put_word(&mut r, 0, 0x00000007);
+    wire::put_word(&mut r, 4, 0x00000007);
+    wire::put_word(&mut r, 8, 0x00000001);
+    wire::put_word(&mut r, 12, 0x00000001);
+    wire::put_word(&mut r, 16, 0x00000064);
+    wire::put_word(&mut r, 20, 0x00000000);
+    wire::put_word(&mut r, 24, 0x00000194);
+    wire::put_word(&mut r, 28, 0x00000000);
+    r
+}
 
 fn time(t: Time) {
     crate::number(t.sec as usize);
@@ -92,9 +70,9 @@ fn copied(recording: &[u8], sheet: &[u8], out: &mut [u8]) {
 }
 
 pub fn releasing() {
-    let m = crate::M;
+    let m = crate::message_m();
     // P9, a sheet of 33 bytes, and a spare bit that is not zero.
-    let mut r = R;
+    let mut r = row_r();
     sheet(&r);
     let odd = [0u8; 33];
     sheet(&odd);

@@ -38,7 +38,7 @@ fn none() {
 
 pub fn walking() {
     // M's payload: its two packages without their padding, and then the end.
-    let m = crate::M;
+    let m = crate::message_m();
     step(&m[24..56], 0);
     step(&m[24..56], 16);
     step(&m[24..56], 32);
