@@ -23,7 +23,7 @@ use Rattle.rules.proofs.Valids.{valid, run-length}
 use Rattle.rules.proofs.Writer.{parts}
 use Rattle.compose.specs.Payload.{Cuts, messageOf, sizeOf, sized, finished, Fit}
 use Rattle.compose.proofs.Answered.{answer, refusing, finishing}
-use Rattle.compose.proofs.Whole.{rendered-length, message-length}
+use Rattle.compose.proofs.Whole.{rendered-length}
 
 module _ (s : List ℕ) (r : ℕ × List (List ℕ)) (b : Bytes s) (e : parsed 0 s (head s) ≡ good r) where
   w : Passed 0 s (head s) r
@@ -45,9 +45,6 @@ module _ (s : List ℕ) (r : ℕ × List (List ℕ)) (b : Bytes s) (e : parsed 0
 
   pub payload-size : length (parts s r .packages) ≡ head s .size - front (head s)
   payload-size = rw (length-take, length-drop) (omega (arith, w .header .least, w .header .most))
-
-  pub cleaned-length : length (cleaned s r) ≡ sizeOf (parts s r)
-  cleaned-length = ap length (sym cleaned-bytes) ∙ message-length (parts s r) cleaned-cuts
 
 -- the parts of the message that was read at the start of s, by its numbers
 abbrev pub spotDraft : List ℕ → MessageSpot → Draft

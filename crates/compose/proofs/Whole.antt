@@ -8,11 +8,9 @@ use lib.ListN.{length, take, drop, length-append}
 use lib.Seq.{sets}
 use borrow.Rule.Slice.PartMut.{putMid}
 use Rattle.rules.specs.Outcome.{_>>=_, _>>_}
-use Rattle.rules.specs.Bytes.{put32, pad, padded, part, oneIfAny}
+use Rattle.rules.specs.Bytes.{put32, pad, padded, oneIfAny}
 use Rattle.rules.specs.Packages.{cut, packageOf, pieceOf, Fills, none, more}
-use Rattle.rules.specs.Writer.{write, Draft, drafted, written, writer}
-use Rattle.rules.specs.Buffer.{stored}
-use Rattle.rules.specs.Clean.{cleaner}
+use Rattle.rules.specs.Writer.{write, Draft, drafted}
 use Rattle.rules.proofs.Cut as Cut
 use Rattle.rules.proofs.Pieces.{length-padded}
 use Rattle.rules.proofs.Cleaned.{any-filled}

@@ -1,27 +1,19 @@
 -- What a message that was found says in the terms of the rules: its record, its pieces, and the order of its places.
-use Prim.Native.Nat.{ℕ, zero, suc, _+_, _-_, _*_, _≤_}
-use mathlib.Core.Path.{_≡_, refl, sym, ap, subst}
-use mathlib.Core.Bool.{Bool, true, false}
-use mathlib.Core.List.{List, [], _∷_}
-use mathlib.Core.Option.{Option, none, some}
+use Prim.Native.Nat.{ℕ, _+_, _-_, _*_, _≤_}
+use mathlib.Core.Path.{_≡_, refl, subst}
+use mathlib.Core.List.{List}
 use native.Mathlib.Omega.{arith}
 use borrow.Author.Tests.{ltb-false}
-use lib.Dec.{ltb, leb}
-use lib.ListN.{length, take, drop, length-drop}
-use lib.Seq.{drop-drop, take-take, length-take-le}
-use Rattle.rules.specs.Outcome.{Outcome, good, bad, refuse, _>>_, _>>=_, LARGE}
-use Rattle.rules.specs.Bytes.{half, pad, part}
-use Rattle.rules.specs.Packages as P
-use Rattle.rules.specs.Packages.{piece, packageOf}
+use lib.ListN.{length, drop, length-drop}
+use lib.Seq.{length-take-le}
+use Rattle.rules.specs.Outcome.{good}
+use Rattle.rules.specs.Bytes.{part}
 use Rattle.rules.specs.Message.{head, front, parsed, recordOf, message}
-use Rattle.rules.proofs.Numbers.{half-take}
 use Rattle.rules.proofs.Cut as Cut
 use Rattle.rules.proofs.Passed.{passes}
 use Rattle.rules.proofs.Outcomes.{passed, stepped, good-inj, step}
 use Rattle.message.proofs.Messages.{fill-least}
-use Rattle.message.proofs.Pieces.{Taking, piece-taking}
 use Rattle.message.specs.Answers.{messageHere}
-use Rattle.rules.specs.Walk.{PackageSpot, packageSpot, packageAt, packageIn}
 use Rattle.rules.specs.Reading.{MessageSpot, messageSpot, messageAt}
 
 -- a message that was found is the message of the rules, and its numbers are those of its pieces

@@ -1,11 +1,11 @@
 -- What the answers of `message` stand for, and what its inner functions promise.
-use Prim.Native.Nat.{ℕ, zero, _+_, _*_, _/_, _%_, _≤_, _<_}
+use Prim.Native.Nat.{ℕ, _+_, _*_, _≤_, _<_}
 use mathlib.Core.Path.{_≡_}
-use mathlib.Core.Bool.{true, false, not}
-use mathlib.Core.List.{List, []}
+use mathlib.Core.Bool.{true, false}
+use mathlib.Core.List.{List}
 use mathlib.Core.Option.{Option, none, some}
-use lib.Dec.{leb, ltb, eqb}
-use lib.ListN.{length, drop}
+use lib.Dec.{ltb, eqb}
+use lib.ListN.{length}
 use denote.Ref.{RefT}
 use Rattle.rules.specs.Outcome.{Outcome, good, _>>=_}
 use Rattle.rules.specs.Bytes.{at, half, pad}

@@ -1,9 +1,9 @@
 -- What is shown, and where the walk then stands, by what a step finds.
 use Prim.Native.Nat.{ℕ}
-use mathlib.Core.Path.{_≡_, sym}
+use mathlib.Core.Path.{_≡_}
 use mathlib.Core.List.{List, []}
-use mathlib.Core.Option.{Option, none, some}
-use Rattle.rules.specs.Outcome.{Outcome, good, bad}
+use mathlib.Core.Option.{none, some}
+use Rattle.rules.specs.Outcome.{good, bad}
 use Rattle.rules.specs.Bytes.{part}
 use Rattle.rules.specs.Walk.{PackageSpot, packageAt, dataAt, startAt, nextAt}
 
