@@ -1,5 +1,5 @@
-// The published table of refusals: why an input is refused, and the number that document 01 gives each reason. A later reason is one line
-// more in the enum, one in number_of, one in numberOf (specs/Numbers.antt), one line and one word in proofs/Numbers.antt, and its name in rules.
+// The published table of refusals: why an input is refused, and the number that document 01 gives each reason. The table itself is
+// `table.txt` beside this folder; `tools/refusals` writes the enum and its numbers from it.
 ghost use mathlib.Core.Path.{_≡_};
 ghost use Rattle.refusal.specs.Numbers.{numberOf};
 
