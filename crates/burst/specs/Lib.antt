@@ -1,1 +1,2 @@
+-- What the promises of `burst` cite beyond the rules.
 pub mod Told

@@ -5,11 +5,10 @@ use mathlib.Core.List.{List}
 use borrow.Author.Tests.{le-ltb, lt-ltb}
 use lib.ListN.{length}
 use lib.Seq.{sets}
-use Rattle.rules.specs.Outcome.{Outcome, good, bad, _>>=_, _>>_, ROOM}
+use Rattle.rules.specs.Outcome.{Outcome, good, bad, _>>=_, ROOM}
 use Rattle.rules.specs.Packages.{cut}
-use Rattle.rules.specs.Writer.{Draft, writer}
+use Rattle.rules.specs.Writer.{Draft}
 use Rattle.rules.specs.Buffer.{Written, stored, fitted}
-use Rattle.rules.specs.Clean.{cleaner}
 use Rattle.rules.proofs.Outcomes.{pass, halt, step, good≢bad, good-inj}
 use Rattle.compose.specs.Payload.{messageOf, sized, finished, Fit}
 use Rattle.compose.proofs.Whole.{message-length}

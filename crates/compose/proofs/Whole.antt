@@ -7,7 +7,6 @@ use native.Mathlib.Omega.{arith}
 use lib.ListN.{length, take, drop, length-append}
 use lib.Seq.{sets}
 use borrow.Rule.Slice.PartMut.{putMid}
-use Rattle.rules.specs.Outcome.{_>>=_, _>>_}
 use Rattle.rules.specs.Bytes.{put32, pad, padded, oneIfAny}
 use Rattle.rules.specs.Packages.{cut, packageOf, pieceOf, Fills, none, more}
 use Rattle.rules.specs.Writer.{write, Draft, drafted}

@@ -1,2 +1,3 @@
+-- The laws that the proofs of the functions of `hibernaxo` cite.
 pub mod Buffers
 pub mod Rows

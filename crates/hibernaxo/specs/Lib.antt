@@ -1,1 +1,2 @@
+-- What each export hands back.
 pub mod Told

@@ -1,3 +1,4 @@
+-- The laws that the proofs of the functions of `message` cite.
 pub mod Tests
 pub mod Checks
 pub mod Opts

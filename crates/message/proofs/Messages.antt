@@ -1,18 +1,16 @@
 -- Checks 8 to 10, the message at a place, and the loop over a recording.
-use Prim.Native.Nat.{ℕ, zero, suc, _+_, _-_, _*_, _/_, _%_, _≤_, _<_}
+use Prim.Native.Nat.{ℕ, suc, _+_, _-_, _*_, _/_, _%_, _≤_, _<_}
 use mathlib.Core.Path.{_≡_, refl, sym, ap, subst, _∙_}
 use mathlib.Core.Logic.{⊎-elim}
-use mathlib.Core.Bool.{Bool, true, false, not}
-use mathlib.Core.List.{List, [], _∷_, _++_, map}
-use native.Mathlib.Nat.{add-zero}
+use mathlib.Core.Bool.{Bool, true, false}
+use mathlib.Core.List.{List, [], _∷_, _++_}
 use native.Mathlib.Omega.{arith}
 use borrow.Author.Tests.{lt-ltb, le-ltb, ltb-true, ltb-false}
-use lib.Dec.{ltb, eqb}
-use lib.ListN.{length, take, drop, length-take, length-drop, length-append, length-map, drop-of-length-le}
+use lib.Dec.{ltb}
+use lib.ListN.{length, take, drop, length-drop, length-append, length-map}
 use lib.Seq.{drop-cons, length-take-le}
-use Rattle.rules.specs.Outcome.{Outcome, good, bad, refuse, _>>_, _>>=_, SHORT, LARGE, FRAGMENT, STANDARD}
+use Rattle.rules.specs.Outcome.{Outcome, good, bad, _>>=_, SHORT, LARGE, FRAGMENT, STANDARD}
 use Rattle.rules.specs.Bytes.{at, part, oneIfAny}
-use Rattle.rules.specs.Items.{items}
 use Rattle.rules.specs.Packages.{Fills, none, more, cut, packageOf}
 use Rattle.rules.specs.Message.{Head, head, front, checked, runLength, framed, parsed, Message, recordOf, message, recording}
 use Rattle.rules.specs.Reading.{packagesOf, counted}

@@ -1,22 +1,21 @@
 -- Options: the sizes that a kind may have, what stands at the start of option bytes, and the loop over them.
 use Prim.Native.Nat.{ℕ, zero, suc, _+_, _-_, _≤_, _<_}
 use mathlib.Core.Path.{_≡_, refl, sym, _∙_}
-use mathlib.Core.Bool.{Bool, true, false, not, _&&_}
+use mathlib.Core.Bool.{Bool, true, false}
 use mathlib.Core.List.{List, [], _∷_}
 use native.Mathlib.Nat.{add-zero}
 use native.Mathlib.Omega.{arith}
 use borrow.Author.Tests.{eq-eqb, ne-eqb, eqb-true, eqb-false, lt-ltb, le-ltb, le-leb, lt-leb}
 use lib.Dec.{leb, ltb, eqb}
 use lib.ListN.{length, take, drop, length-drop, drop-of-length-le}
-use lib.Seq.{getD-drop, drop-cons}
-use Rattle.rules.specs.Outcome.{Outcome, good, bad, OPTION}
+use lib.Seq.{getD-drop}
+use Rattle.rules.specs.Outcome.{good, bad, OPTION}
 use Rattle.rules.specs.Bytes.{at}
 use Rattle.rules.specs.Options.{sized, optionSize, optionFits, run}
 use Rattle.rules.proofs.Outcomes.{halt}
 use Rattle.rules.proofs.Run.{bounds}
 use Rattle.rules.proofs.Loops.{rest, running}
 use Rattle.message.specs.Answers.{optionHere}
-use Rattle.message.specs.declared.Opt.{Opt}
 use Rattle.message.specs.declared.Opt.the-variants.{Ends, Takes, Bad}
 
 -- ---- sizes

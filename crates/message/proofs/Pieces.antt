@@ -1,25 +1,24 @@
 -- Packages: the piece that one takes, the one at a place of a run, and the loop over a payload.
-use Prim.Native.Nat.{ℕ, zero, suc, _+_, _-_, _*_, _/_, _≤_, _<_}
+use Prim.Native.Nat.{ℕ, _+_, _-_, _*_, _/_, _≤_, _<_}
 use mathlib.Core.Path.{_≡_, refl, sym, ap, subst, _∙_}
-use mathlib.Core.Bool.{Bool, true, false, not}
+use mathlib.Core.Bool.{Bool, true, false}
 use mathlib.Core.List.{List, [], _∷_, _++_}
 use mathlib.Core.Option.{Option, none, some}
 use native.Mathlib.Nat.{add-zero, add-assoc}
 use native.Mathlib.Omega.{arith}
 use borrow.Author.Tests.{lt-ltb, le-ltb, le-leb, lt-leb, ltb-false, leb-false, not-false}
-use lib.Dec.{leb, ltb}
-use lib.ListN.{length, take, drop, length-drop, length-append, drop-of-length-le}
-use lib.Seq.{getD-take, getD-drop}
-use Rattle.rules.specs.Outcome.{Outcome, good, bad, _>>=_, LARGE, PACKAGE}
+use lib.Dec.{leb}
+use lib.ListN.{length, take, drop, length-drop, length-append}
+use lib.Seq.{getD-take}
+use Rattle.rules.specs.Outcome.{Outcome, good, bad, LARGE, PACKAGE}
 use Rattle.rules.specs.Bytes.{at, half, word, pad}
-use Rattle.rules.specs.Packages.{packageFits, piece, cut}
+use Rattle.rules.specs.Packages.{packageFits, piece}
 use Rattle.rules.proofs.Outcomes.{pass, halt, step, stop, passed, stepped, good-inj}
 use Rattle.rules.proofs.Numbers.{half-take}
 use Rattle.rules.proofs.Cut.{fit}
 use Rattle.rules.proofs.Loops.{rest, Passing, passing-start, passing-next, passing-end, passing-bad}
 use Rattle.message.specs.Answers.{pieceHere, cutCount}
 use Rattle.rules.specs.Walk.{PackageSpot, packageSpot, packageAt}
-use Rattle.message.specs.declared.Piece.{Piece}
 use Rattle.message.specs.declared.Piece.the-variants.{Takes, Bad}
 
 -- ---- the piece at the start of s

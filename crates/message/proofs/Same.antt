@@ -3,7 +3,6 @@ use Prim.Native.Nat.{ℕ}
 use mathlib.Core.Path.{_≡_, refl, sym, ap, _∙_}
 use mathlib.Core.Option.{Option, none, some}
 use native.Mathlib.Omega.{arith}
-use Rattle.rules.specs.Outcome.{Outcome, good, bad}
 use Rattle.rules.specs.Message.{Head}
 use Rattle.rules.specs.Claims.{TellsApart}
 use Rattle.rules.proofs.Outcomes.{good-inj, good≢bad}
@@ -14,11 +13,8 @@ use Rattle.rules.specs.Reading.{MessageSpot}
 use Rattle.message.specs.declared.Header.{Header}
 use Rattle.message.specs.declared.Package.{Package}
 use Rattle.message.specs.declared.Message.{Message}
-use Rattle.message.specs.declared.HeaderRead.{HeaderRead}
 use Rattle.message.specs.declared.HeaderRead.the-variants as headerRead
-use Rattle.message.specs.declared.PackageRead.{PackageRead}
 use Rattle.message.specs.declared.PackageRead.the-variants as packageRead
-use Rattle.message.specs.declared.MessageRead.{MessageRead}
 use Rattle.message.specs.declared.MessageRead.the-variants as messageRead
 use Rattle.message.specs.declared.Count.the-variants as count
 use Rattle.message.specs.declared.Checked.{Checked}

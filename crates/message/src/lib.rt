@@ -3,7 +3,7 @@ use refusal::Refusal;
 use refusal::Why;
 ghost use mathlib.Core.Path.{_≡_};
 ghost use mathlib.Core.Bool.{true};
-ghost use Prim.Native.Nat.{_+_, _*_, _/_, _≤_, _<_};
+ghost use Prim.Native.Nat.{_+_, _*_, _/_, _<_};
 ghost use lib.ListN.{length};
 ghost use Rattle.rules.specs.Options as options;
 ghost use Rattle.rules.specs.Message as rule;

@@ -1,6 +1,6 @@
 -- A promise allows one outcome alone: what the copy tells settles the answer and the buffer.
 use Prim.Native.Nat.{ℕ}
-use mathlib.Core.Path.{_≡_, sym, ap}
+use mathlib.Core.Path.{sym, ap}
 use mathlib.Core.List.{List}
 use Rattle.rules.specs.Claims.{TellsApart}
 use Rattle.rules.specs.Copy.{Answer}

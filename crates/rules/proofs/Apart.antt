@@ -1,6 +1,6 @@
 -- Answers that are told apart stay so beside the buffer after them.
 use Prim.Native.Nat.{ℕ}
-use mathlib.Core.Path.{_≡_, ap, ap₂}
+use mathlib.Core.Path.{ap, ap₂}
 use mathlib.Core.List.{List}
 use Rattle.rules.specs.Claims.{TellsApart}
 

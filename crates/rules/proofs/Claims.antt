@@ -5,8 +5,8 @@ use mathlib.Core.List.{List}
 use borrow.Author.Tests.{le-ltb}
 use lib.ListN.{length}
 use Rattle.rules.specs.Outcome.{good, _>>=_, _>>_}
-use Rattle.rules.specs.Bytes.{Bytes, part}
-use Rattle.rules.specs.Message.{headerBytes, notLarge, head, Message, recordOf, message, parsed}
+use Rattle.rules.specs.Bytes.{part}
+use Rattle.rules.specs.Message.{headerBytes, notLarge, head, message, parsed}
 use Rattle.rules.specs.Reading.{header, optionRun}
 use Rattle.rules.specs.Buffer.{fitted}
 use Rattle.rules.specs.Writer.{written, writer}

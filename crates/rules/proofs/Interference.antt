@@ -1,5 +1,5 @@
 -- The copy depends on recording and sheet by their released list alone, and tells two released lists apart.
-use Prim.Native.Nat.{ℕ, _+_, _*_, _/_, _%_, _≤_, _<_}
+use Prim.Native.Nat.{ℕ, _+_, _/_, _%_, _≤_, _<_}
 use mathlib.Core.Path.{_≡_, refl, ap, sym, subst, _∙_}
 use mathlib.Core.List.{List, [], _∷_}
 use native.Mathlib.Omega.{arith}
@@ -13,7 +13,7 @@ use Rattle.rules.specs.Message.{Message, message, recording}
 use Rattle.rules.specs.Packages.{Package}
 use Rattle.rules.specs.Sheet.{Row}
 use Rattle.rules.specs.Valid.{Valid}
-use Rattle.rules.specs.Copy.{Entry, listedBits, grantedPackages, enter, released, count, stamp, stamped, rendered, packagesIn, Answer, releasedOf, roomFor, answered, copy, delivered}
+use Rattle.rules.specs.Copy.{Entry, listedBits, grantedPackages, enter, released, count, stamp, stamped, rendered, packagesIn, releasedOf, roomFor, answered, copy, delivered}
 use Rattle.rules.specs.Claims.{Plain}
 use Rattle.rules.proofs.Outcomes.{pass, halt, step, passed, stepped, good-inj}
 use Rattle.rules.proofs.Kept.{take-sets}

@@ -1,3 +1,4 @@
+-- The laws of the rules, and the proofs of the claims.
 pub mod Table
 pub mod Outcomes
 pub mod Numbers

@@ -1,8 +1,8 @@
 -- What is told of a message in a recording is told of its record.
-use Prim.Native.Nat.{ℕ, _+_}
+use Prim.Native.Nat.{ℕ}
 use mathlib.Core.Path.{_≡_, refl, sym, subst}
 use mathlib.Core.List.{List}
-use lib.ListN.{length, drop, length-map}
+use lib.ListN.{drop, length-map}
 use Rattle.rules.specs.Outcome.{good}
 use Rattle.rules.specs.Packages.{packageOf}
 use Rattle.rules.specs.Message.{head, parsed, recordOf, message}

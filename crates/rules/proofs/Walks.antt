@@ -1,16 +1,16 @@
 -- The steps of a walk show the packages of the cut, in order, and then the end.
 use Prim.Native.Nat.{ℕ, zero, suc, _+_, _-_, _≤_, _<_}
 use mathlib.Core.Path.{_≡_, refl, ap, sym, subst, _∙_}
-use mathlib.Core.List.{List, [], _∷_, _++_, map}
+use mathlib.Core.List.{List, [], _∷_, map}
 use mathlib.Core.Option.{Option, none, some}
 use native.Mathlib.Omega.{arith}
 use borrow.Author.Tests.{le-ltb, le-leb, lt-leb}
 use lib.ListN.{length, take, drop, length-drop, length-append}
 use lib.Seq.{drop-drop, take-take, drop-append-seam, take-append-seam}
 use Rattle.rules.specs.Outcome.{Outcome, good, bad}
-use Rattle.rules.specs.Bytes.{half, pad, part}
+use Rattle.rules.specs.Bytes.{half, part}
 use Rattle.rules.specs.Packages as P
-use Rattle.rules.specs.Packages.{Package, piece, cut, packageOf, Piece, Fills}
+use Rattle.rules.specs.Packages.{Package, piece, cut, packageOf, Fills}
 use Rattle.rules.specs.Walk.{PackageSpot, packageSpot, packageAt, dataIn, nextIn, dataAt, nextAt, packageIn, Walks, ends, shows}
 use Rattle.rules.proofs.Outcomes.{pass, step}
 use Rattle.rules.proofs.Cut.{piece-again, sound}

@@ -1,5 +1,5 @@
 -- The writer writes valid records, and the parts of a message that is read give its clean form.
-use Prim.Native.Nat.{ℕ, _+_, _^_, _≤_, _<_}
+use Prim.Native.Nat.{ℕ, _+_, _≤_}
 use mathlib.Core.Path.{_≡_, refl, ap, subst}
 use mathlib.Core.List.{List, map}
 use native.Mathlib.Omega.{arith}

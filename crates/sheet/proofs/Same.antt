@@ -2,7 +2,7 @@
 use Prim.Native.Nat.{ℕ}
 use mathlib.Core.Path.{_≡_, refl, sym, ap, ap₂, _∙_}
 use mathlib.Core.List.{List, [], _∷_, map}
-use Rattle.rules.specs.Outcome.{Outcome, good}
+use Rattle.rules.specs.Outcome.{Outcome}
 use Rattle.rules.specs.Claims.{TellsApart}
 use Rattle.rules.specs.Sheet as rules
 use Rattle.rules.proofs.Outcomes.{good≢bad}
@@ -10,7 +10,6 @@ use Rattle.refusal.proofs.Numbers.{refused-injective}
 use Rattle.sheet.specs.declared.Row.{Row}
 use Rattle.sheet.specs.declared.SheetAnswer.{SheetAnswer}
 use Rattle.sheet.specs.declared.SheetAnswer.the-variants as Answer
-use Rattle.sheet.specs.declared.SheetRead.{SheetRead}
 use Rattle.sheet.specs.Rows.{rowIn}
 use Rattle.sheet.specs.Reading.{outcomeOf, told}
 

@@ -1,2 +1,3 @@
+-- The laws that the proofs of the functions of `walk` cite.
 pub mod Found
 pub mod Same

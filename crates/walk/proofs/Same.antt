@@ -3,7 +3,6 @@ use Prim.Native.Nat.{ℕ}
 use mathlib.Core.Path.{_≡_, sym, ap₂, _∙_}
 use mathlib.Core.List.{List}
 use denote.Ref.{RefT, now}
-use Rattle.message.specs.declared.PackageRead.{PackageRead}
 use Rattle.message.proofs.Same.{same-package}
 use Rattle.walk.specs.Steps.{Shows}
 use Rattle.walk.specs.declared.Walk.{Walk}

@@ -1,5 +1,4 @@
 -- What a step of a walk hands back.
-use Prim.Native.Nat.{ℕ}
 use mathlib.Core.Path.{_≡_}
 use denote.Ref.{now}
 use Rattle.rules.specs.Walk.{packageAt, dataAt, startAt, nextAt}

@@ -1,3 +1,4 @@
+-- `release::held_with` meets its contract: one more exactly at the place behind those held.
 use borrow.Author.Tests.{eq-eqb, ne-eqb}
 use borrow.Author.Needs.{needs}
 use Rattle.release.proofs.held_with.Statement.{statement}

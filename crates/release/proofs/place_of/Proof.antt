@@ -1,3 +1,4 @@
+-- `release::place_of` meets its contract: in the loop the sum is how many stand from the id on, if it was met.
 use borrow.Author.Needs.{needs}
 use mathlib.Core.Path.{_≡_}
 use mathlib.Core.Logic.{⊎-elim}

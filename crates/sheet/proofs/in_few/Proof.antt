@@ -1,5 +1,4 @@
 -- `sheet::in_few` meets its contract: a walk of its MIR, by hand. Its own parameters are plain data, so whoever calls it is covered by the borrow checker.
--- Assumes nothing.
 use mathlib.Core.Path.{_≡_, refl, sym, subst}
 use Prim.Native.Nat.{ℕ, _≤_, _<_, _^_}
 use mathlib.Core.List.{List, [], _∷_}

@@ -1,3 +1,4 @@
+-- `sheet::refuse` meets its contract: every row is zero, and none is the sheet's.
 use borrow.Author.Needs.{needs}
 use Rattle.rules.specs.Sheet.{rowOf, shownRows}
 use Rattle.sheet.proofs.refuse.Statement.{statement}

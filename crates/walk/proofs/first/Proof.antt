@@ -2,7 +2,6 @@
 -- All that the proof knows of `new` and of `next` is that each meets its contract.
 -- In a local of a body MIR erases the lifetime of a struct's type, so a value is shown to have the type at `erased`: what the struct owns does not say the lifetime's name.
 -- A step is plain data: that it has its type is in the relation of the struct that it was read from, and what it owns is made anew of that.
--- Assumes nothing.
 -- the struct's type, over the signature's lifetimes
 use mathlib.Core.Path.{_≡_, refl, ap, _∙_}
 use mathlib.Core.List.{List, [], _∷_}

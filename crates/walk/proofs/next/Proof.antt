@@ -1,7 +1,6 @@
 -- `walk::next` meets its contract: a walk of its MIR, by hand. The walk is taken apart, the three covered functions are called on the slice and the place, and of their answers the result is put together, a struct that holds a struct that holds a slice.
 -- All that the proof knows of the three is that each meets its contract.
 -- A `Walk` and a `&[u8]` are Copy: what the walk owns is had twice, one copy is kept whole for the exit, and of the other what run owns is had once more for each call, and once for the result.
--- Assumes nothing.
 -- the walk's type, over the signature's lifetimes
 use mathlib.Core.Path.{_≡_, refl, ap}
 use mathlib.Core.List.{List, [], _∷_}
