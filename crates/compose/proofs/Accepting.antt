@@ -8,7 +8,7 @@ use borrow.Author.Tests.{le-ltb, lt-ltb}
 use lib.Dec.{ltb}
 use lib.ListN.{length}
 use Rattle.rules.specs.Outcome.{Outcome, good, bad, refuse, _>>=_, _>>_, LARGE, TIME, OPTION}
-use Rattle.rules.specs.Options.{run}
+use Rattle.rules.specs.Options.{optionRunFrom}
 use Rattle.rules.specs.Packages.{cut}
 use Rattle.rules.specs.Message.{Message}
 use Rattle.rules.specs.Writer.{write, writer, Draft, drafted, accepted, written}
@@ -48,7 +48,7 @@ module _ (d : Draft) where
   module _ (w : Early d) where
     -- the checks behind these three
     abbrev later : Outcome Message
-    later = run zero zero zero (d .options) >>= λ n. refuse (ltb n (length (d .options))) OPTION n >> (cut zero (d .packages) >>= λ cs. good (drafted d cs))
+    later = optionRunFrom zero zero zero (d .options) >>= λ n. refuse (ltb n (length (d .options))) OPTION n >> (cut zero (d .packages) >>= λ cs. good (drafted d cs))
 
     goes-on : {r : Outcome Message} → later ≡ r → accepted d ≡ r
     unfolding accepted
@@ -56,13 +56,13 @@ module _ (d : Draft) where
         pass _ _ _ _ (le-ltb 65536 (sizeOf d) (w .small))
         (pass _ _ _ _ (le-ltb 999999999 (d .nanos) (w .nanos)) (pass _ _ _ _ (le-ltb 60 (length (d .options)) (w .short)) e))
 
-    pub is-broken : {n p : ℕ} → bad n p ≡ run zero zero zero (d .options) → bad n p ≡ sized (written d)
+    pub is-broken : {n p : ℕ} → bad n p ≡ optionRunFrom zero zero zero (d .options) → bad n p ≡ sized (written d)
     is-broken e = stays (goes-on (stop _ _ (sym e)))
 
-    pub is-ended : {n : ℕ} → good n ≡ run zero zero zero (d .options) → n < length (d .options) → bad OPTION n ≡ sized (written d)
+    pub is-ended : {n : ℕ} → good n ≡ optionRunFrom zero zero zero (d .options) → n < length (d .options) → bad OPTION n ≡ sized (written d)
     is-ended {n} e l = stays (goes-on (step _ _ (sym e) (halt _ _ _ _ (lt-ltb n (length (d .options)) l))))
 
-    module _ {n : ℕ} (e : good n ≡ run zero zero zero (d .options)) (l : length (d .options) ≤ n) where
+    module _ {n : ℕ} (e : good n ≡ optionRunFrom zero zero zero (d .options)) (l : length (d .options) ≤ n) where
       pub is-uncut : {m p : ℕ} → bad m p ≡ cut zero (d .packages) → bad m p ≡ sized (written d)
       is-uncut f = stays (goes-on (step _ _ (sym e) (pass _ _ _ _ (le-ltb n (length (d .options)) l) (stop _ _ (sym f)))))
 
@@ -89,7 +89,7 @@ fits d {n} e =
     record { fit = record { size = z; small = rw z at (w .large); short = w .short; cuts = c }; bytes = f ∙ ap good q }
 
 -- a bare option run and a bare run of packages, of sizes that are allowed
-pub options-read : (o : List ℕ) → length o ≤ 60 → optionsOf o ≡ run zero zero zero o
+pub options-read : (o : List ℕ) → length o ≤ 60 → optionsOf o ≡ optionRunFrom zero zero zero o
 unfolding optionsOf
 options-read o h = pass _ _ _ _ (le-ltb 65536 (length o) (omega arith)) refl
 

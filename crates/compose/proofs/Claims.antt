@@ -10,7 +10,7 @@ use Rattle.rules.specs.Outcome.{Outcome, good, _>>_, _>>=_}
 use Rattle.rules.specs.Bytes.{Bytes}
 use Rattle.rules.specs.Message.{notLarge, Message, message}
 use Rattle.rules.specs.Writer.{write, Draft, accepted, written, writer}
-use Rattle.rules.specs.Clean.{clean, cleaner}
+use Rattle.rules.specs.Clean.{cleanForm, cleaner}
 use Rattle.rules.specs.Buffer as answers
 use Rattle.rules.specs.Buffer.{stored, fitted}
 use Rattle.rules.proofs.Apart.{beside}
@@ -63,10 +63,10 @@ pub cleaned-again : (s b : List ℕ) (m : Message) (n : ℕ) → Bytes s → len
     → Again m b (cleaner s b)
 unfolding cleaner
 cleaned-again s b m n v h e l = record {
-  written = kept (notLarge s >> clean s) (write m) b (pass _ _ _ _ (le-ltb 65536 (length s) h) (read-written s v m n e)) l;
+  written = kept (notLarge s >> cleanForm s) (write m) b (pass _ _ _ _ (le-ltb 65536 (length s) h) (read-written s v m n e)) l;
   read = rw (stands (write m) b l) (written-read m (read-valid 0 s v h m n e) 0 _);
 }
 
 -- and the buffer, cleaned again, gives the same bytes
-pub cleaned-twice : (s b c : List ℕ) → Bytes s → Bytes b → length s ≤ 65536 → clean s ≡ good c → length c ≤ length b → clean (sets b 0 c) ≡ good c
+pub cleaned-twice : (s b c : List ℕ) → Bytes s → Bytes b → length s ≤ 65536 → cleanForm s ≡ good c → length c ≤ length b → cleanForm (sets b 0 c) ≡ good c
 cleaned-twice s b c v u h e l = rw (stands c b l) (clean-twice s c (drop (0 + length c) b) v h (bytes-drop (0 + length c) b u) e)

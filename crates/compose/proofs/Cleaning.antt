@@ -9,8 +9,8 @@ use lib.ListN.{length, length-take, length-drop, drop}
 use Rattle.rules.specs.Outcome.{Outcome, good, bad, _>>_, _>>=_}
 use Rattle.rules.specs.Bytes.{Bytes, pad, part}
 use Rattle.rules.specs.Packages.{cut}
-use Rattle.rules.specs.Message.{head, front, parsed, recordOf, notLarge}
-use Rattle.rules.specs.Clean.{cleaned, clean, cleaner}
+use Rattle.rules.specs.Message.{head, payloadStart, checksOneToTen, recordOf, notLarge}
+use Rattle.rules.specs.Clean.{cleanBytes, cleanForm, cleaner}
 use Rattle.rules.specs.Writer.{Draft, drafted}
 use Rattle.rules.specs.Valid.{Valid}
 use Rattle.message.specs.Answers.{messageHere}
@@ -25,7 +25,7 @@ use Rattle.compose.specs.Payload.{Cuts, messageOf, sizeOf, sized, finish
 use Rattle.compose.proofs.Answered.{answer, refusing, finishing}
 use Rattle.compose.proofs.Whole.{rendered-length}
 
-module _ (s : List ℕ) (r : ℕ × List (List ℕ)) (b : Bytes s) (e : parsed 0 s (head s) ≡ good r) where
+module _ (s : List ℕ) (r : ℕ × List (List ℕ)) (b : Bytes s) (e : checksOneToTen 0 s (head s) ≡ good r) where
   w : Passed 0 s (head s) r
   w = passes 0 s (head s) r e
 
@@ -35,7 +35,7 @@ module _ (s : List ℕ) (r : ℕ × List (List ℕ)) (b : Bytes s) (e : parsed 0
   pub cleaned-cuts : Cuts (parts s r .packages)
   cleaned-cuts = record { pieces = r .1; cuts = again }
 
-  pub cleaned-bytes : messageOf (parts s r) (cut 0 (parts s r .packages)) ≡ cleaned s r
+  pub cleaned-bytes : messageOf (parts s r) (cut 0 (parts s r .packages)) ≡ cleanBytes s r
   unfolding messageOf drafted recordOf
   cleaned-bytes = rw again (write-read 0 s r b w)
 
@@ -43,7 +43,7 @@ module _ (s : List ℕ) (r : ℕ × List (List ℕ)) (b : Bytes s) (e : parsed 0
   pub run-size : length (parts s r .options) ≡ r .0
   run-size = run-length 0 s r b w
 
-  pub payload-size : length (parts s r .packages) ≡ head s .size - front (head s)
+  pub payload-size : length (parts s r .packages) ≡ head s .size - payloadStart (head s)
   payload-size = rw (length-take, length-drop) (omega (arith, w .header .least, w .header .most))
 
 -- the parts of the message that was read at the start of s, by its numbers
@@ -69,11 +69,11 @@ pub record Read (s : List ℕ) (k : MessageSpot) : Type 0 where
   pub payload : length (spotDraft s k .packages) ≡ k .next - k .payload
   pub small : sizeOf (spotDraft s k) ≤ 65536
   pub cuts : Cuts (spotDraft s k .packages)
-  pub bytes : (notLarge s >> clean s) ≡ good (messageOf (spotDraft s k) (cut 0 (spotDraft s k .packages)))
+  pub bytes : (notLarge s >> cleanForm s) ≡ good (messageOf (spotDraft s k) (cut 0 (spotDraft s k .packages)))
 
-module _ (s : List ℕ) (b : Bytes s) (l : length s ≤ 65536) (r : ℕ × List (List ℕ)) (e : parsed 0 s (head s) ≡ good r) where
-  read-parts : Read s (record { head = head s; run = r .0; payload = front (head s); next = head s .size; packages = length (r .1) })
-  unfolding recordOf clean
+module _ (s : List ℕ) (b : Bytes s) (l : length s ≤ 65536) (r : ℕ × List (List ℕ)) (e : checksOneToTen 0 s (head s) ≡ good r) where
+  read-parts : Read s (record { head = head s; run = r .0; payload = payloadStart (head s); next = head s .size; packages = length (r .1) })
+  unfolding recordOf cleanForm
   read-parts =
       let w = passes 0 s (head s) r e in
       let v : Valid (recordOf s (head s) r) = valid 0 s r b w l in
@@ -93,7 +93,7 @@ module _ (s : List ℕ) (b : Bytes s) (l : length s ≤ 65536) (r : ℕ × List 
 
   pub read-spot : Read s (messageSpot 0 (head s) r)
   unfolding messageSpot
-  read-spot = rw (zero-add (front (head s)), zero-add (head s .size)) read-parts
+  read-spot = rw (zero-add (payloadStart (head s)), zero-add (head s .size)) read-parts
 
 pub reads : (s : List ℕ) (k : MessageSpot) → Bytes s → good k ≡ messageAt s 0 → Read s k
 unfolding messageAt messageHere
@@ -112,14 +112,14 @@ same-refusal (good tt) (bad m q) f g {n} {p} e = let i : n ≡ m = cc in let j :
 same-refusal (good tt) (good a) f g e = absurd (good≢bad e)
 
 -- a message that is refused
-pub unread : (s : List ℕ) {n p : ℕ} → bad n p ≡ messageAt s 0 → bad n p ≡ sized (notLarge s >> clean s)
-unfolding messageAt messageHere clean
-unread s e = same-refusal (notLarge s) (parsed 0 s (head s)) (messageSpot 0 (head s)) (cleaned s) e
+pub unread : (s : List ℕ) {n p : ℕ} → bad n p ≡ messageAt s 0 → bad n p ≡ sized (notLarge s >> cleanForm s)
+unfolding messageAt messageHere cleanForm
+unread s e = same-refusal (notLarge s) (checksOneToTen 0 s (head s)) (messageSpot 0 (head s)) (cleanBytes s) e
 
 -- the cleaner's answers
 pub clean-refused : (s b : List ℕ) {n p : ℕ} → bad n p ≡ messageAt s 0 → answer n p 0 b ≡ cleaner s b
 unfolding cleaner
-clean-refused s b e = refusing b (notLarge s >> clean s) (unread s e)
+clean-refused s b e = refusing b (notLarge s >> cleanForm s) (unread s e)
 
 module _ (s b : List ℕ) (k : MessageSpot) (v : Bytes s) (e : good k ≡ messageAt s 0) where
   seen : Read s k
@@ -132,4 +132,4 @@ module _ (s b : List ℕ) (k : MessageSpot) (v : Bytes s) (e : good k ≡ messag
 
   pub clean-finished : finished (spotDraft s k) b ≡ cleaner s b
   unfolding cleaner
-  clean-finished = finishing (spotDraft s k) b (notLarge s >> clean s) (seen .bytes)
+  clean-finished = finishing (spotDraft s k) b (notLarge s >> cleanForm s) (seen .bytes)

@@ -18,7 +18,7 @@ ghost use mathlib.Core.List.{map};
 ghost use Prim.Native.Nat.{_+_, _*_, _<_};
 ghost use lib.Seq.{sets};
 ghost use Rattle.rules.specs.Bytes.{join};
-ghost use Rattle.rules.specs.Reading.{header, counted};
+ghost use Rattle.rules.specs.Reading.{header, checkedRecording};
 ghost use Rattle.rules.specs.Walk.{packageAt};
 ghost use Rattle.rules.specs.Writer.{writer};
 ghost use Rattle.rules.specs.Clean.{cleaner};
@@ -101,7 +101,7 @@ pub extern "C" fn hibernaxo_package(run: &[u8], at: usize, values: &mut [u64; 9]
 // A recording checked: messages and packages.
 #[no_mangle]
 pub extern "C" fn hibernaxo_check(recording: &[u8], values: &mut [u64; 3]) -> u32
-    ensures { λ r. ⌜ (r, now (values .exit)) ≡ checkTold (counted (now (recording .entry))) ⌝ }
+    ensures { λ r. ⌜ (r, now (values .exit)) ≡ checkTold (checkedRecording (now (recording .entry))) ⌝ }
 {
     match message::check(recording) {
         Checked::Passed { messages, packages } => {

@@ -8,7 +8,7 @@ use lib.ListN.{length, drop, length-drop}
 use lib.Seq.{length-take-le}
 use Rattle.rules.specs.Outcome.{good}
 use Rattle.rules.specs.Bytes.{part}
-use Rattle.rules.specs.Message.{head, front, parsed, recordOf, message}
+use Rattle.rules.specs.Message.{head, payloadStart, checksOneToTen, recordOf, message}
 use Rattle.rules.proofs.Cut as Cut
 use Rattle.rules.proofs.Passed.{passes}
 use Rattle.rules.proofs.Outcomes.{passed, stepped, good-inj, step}
@@ -20,7 +20,7 @@ use Rattle.rules.specs.Reading.{MessageSpot, messageSpot, messageAt}
 pub record Found (s : List ℕ) (p : ℕ) (d : MessageSpot) : Type 0 where
   pub small : length s ≤ 65536
   pub pieces : ℕ × List (List ℕ)
-  pub parses : parsed p (drop p s) (head (drop p s)) ≡ good pieces
+  pub parses : checksOneToTen p (drop p s) (head (drop p s)) ≡ good pieces
   pub reads : message p (drop p s) ≡ good (recordOf (drop p s) (head (drop p s)) pieces, head (drop p s) .size)
   pub spot : messageSpot p (head (drop p s)) pieces ≡ d
 
@@ -39,13 +39,13 @@ pub record Ordered (s : List ℕ) (p : ℕ) (d : MessageSpot) : Type 0 where
   pub most : d .next ≤ length s
   pub few : 12 * d .packages ≤ d .next - d .payload
 
-ordered-spot : (s : List ℕ) (p : ℕ) (r : ℕ × List (List ℕ)) → parsed p (drop p s) (head (drop p s)) ≡ good r → p ≤ length s → length s ≤ 65536 → Ordered s p (messageSpot p (head (drop p s)) r)
+ordered-spot : (s : List ℕ) (p : ℕ) (r : ℕ × List (List ℕ)) → checksOneToTen p (drop p s) (head (drop p s)) ≡ good r → p ≤ length s → length s ≤ 65536 → Ordered s p (messageSpot p (head (drop p s)) r)
 unfolding messageSpot
 ordered-spot s p r e h b =
     let t = drop p s in
     let w = passes p t (head t) r e in
-    let l = fill-least (Cut.sound 0 (p + front (head t)) (part (front (head t)) (head t .size) t) (w .packages)) in
-    let m : length (part (front (head t)) (head t .size) t) ≡ head t .size - front (head t) = length-take-le (head t .size - front (head t)) (drop (front (head t)) t) (omega (arith, length-drop (front (head t)) t, w .header .most)) in
+    let l = fill-least (Cut.sound 0 (p + payloadStart (head t)) (part (payloadStart (head t)) (head t .size) t) (w .packages)) in
+    let m : length (part (payloadStart (head t)) (head t .size) t) ≡ head t .size - payloadStart (head t) = length-take-le (head t .size - payloadStart (head t)) (drop (payloadStart (head t)) t) (omega (arith, length-drop (payloadStart (head t)) t, w .header .most)) in
     record { small = b; payload = omega arith; next = omega (arith, w .header .least); most = omega (arith, w .header .most, length-drop p s); few = omega (arith, l, w .header .least) }
 
 pub ordered : (s : List ℕ) (p : ℕ) (d : MessageSpot) → messageAt s p ≡ good d → Ordered s p d

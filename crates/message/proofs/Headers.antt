@@ -7,8 +7,8 @@ use borrow.Author.Tests.{lt-ltb, le-ltb}
 use lib.ListN.{length, take, drop, length-take, length-drop}
 use Rattle.rules.specs.Outcome.{Outcome, good, bad, LARGE}
 use Rattle.rules.specs.Bytes.{part}
-use Rattle.rules.specs.Options.{run}
-use Rattle.rules.specs.Message.{Head, head, front, checked, runLength}
+use Rattle.rules.specs.Options.{optionRunFrom}
+use Rattle.rules.specs.Message.{Head, head, payloadStart, checksOneToSix, optionRunLength}
 use Rattle.rules.specs.Reading.{header}
 use Rattle.rules.proofs.Outcomes.{pass, halt, step, stop, after, stop-before, came-after, passed, stepped, good-inj}
 use Rattle.rules.proofs.Run.{run-ends}
@@ -20,32 +20,32 @@ use Rattle.message.specs.declared.Header.{Header}
 use Rattle.message.specs.declared.HeaderRead.the-variants as headerRead
 
 module _ (p : ℕ) (s : List ℕ) (h : Head) where
-  pub gate-shut : {n q : ℕ} → bad n q ≡ checked p s h → bad n q ≡ runLength p s h
-  unfolding runLength
+  pub gate-shut : {n q : ℕ} → bad n q ≡ checksOneToSix p s h → bad n q ≡ optionRunLength p s h
+  unfolding optionRunLength
   gate-shut e = sym (stop-before _ _ (sym e))
 
-  pub gate-open : good tt ≡ checked p s h → Sound s h
+  pub gate-open : good tt ≡ checksOneToSix p s h → Sound s h
   gate-open e = sound p s h (sym e)
 
-  pub run-behind : {o : Outcome ℕ} (f : ℕ) → f ≡ 24 + 4 * h .words → good tt ≡ checked p s h → o ≡ run 0 (p + 24) 0 (take (f - 24) (drop 24 s)) → o ≡ runLength p s h
-  unfolding runLength
+  pub run-behind : {o : Outcome ℕ} (f : ℕ) → f ≡ 24 + 4 * h .words → good tt ≡ checksOneToSix p s h → o ≡ optionRunFrom 0 (p + 24) 0 (take (f - 24) (drop 24 s)) → o ≡ optionRunLength p s h
+  unfolding optionRunLength
   run-behind f ef e r = sym (after _ _ (sym e) (sym (rw ef at r)))
 
-  pub opened-is : {n : ℕ} → p + length s < 4294967296 → good n ≡ runLength p s h → Opened s h p
-  unfolding runLength
+  pub opened-is : {n : ℕ} → p + length s < 4294967296 → good n ≡ optionRunLength p s h → Opened s h p
+  unfolding optionRunLength
   opened-is l e =
       let (a, b) = came-after _ _ (sym e) in
       let d = sound p s h a in
       record { version = d .version; kind = d .kind; least = d .least; most = d .most; place = l }
 
   -- the option run lies in the option bytes
-  pub run-inside : {n : ℕ} → good n ≡ runLength p s h → 24 + n ≤ length s
-  unfolding runLength
+  pub run-inside : {n : ℕ} → good n ≡ optionRunLength p s h → 24 + n ≤ length s
+  unfolding optionRunLength
   run-inside e =
       let (a, b) = came-after _ _ (sym e) in
       let d = sound p s h a in
-      let r = run-ends 0 (p + 24) 0 (part 24 (front h) s) (omega arith) b in
-      omega (arith, r .most, d .least, d .most, d .long, length-take (front h - 24) (drop 24 s), length-drop 24 s)
+      let r = run-ends 0 (p + 24) 0 (part 24 (payloadStart h) s) (omega arith) b in
+      omega (arith, r .most, d .least, d .most, d .long, length-take (payloadStart h - 24) (drop 24 s), length-drop 24 s)
 
 -- a header alone
 module _ (s : List ℕ) where
@@ -54,15 +54,15 @@ module _ (s : List ℕ) where
   large a = sym (halt _ _ _ _ (lt-ltb 65536 (length s) a))
 
   module _ (a : length s ≤ 65536) (h : Raw) (eh : headOf h ≡ head s) where
-    pub not-read : {n q : ℕ} → bad n q ≡ runLength 0 s (headOf h) → bad n q ≡ header s
+    pub not-read : {n q : ℕ} → bad n q ≡ optionRunLength 0 s (headOf h) → bad n q ≡ header s
     unfolding header
     not-read e = sym (pass _ _ _ _ (le-ltb 65536 (length s) a) (stop _ _ (rw (← eh) (sym e))))
 
-    pub read : (n : ℕ) (r : Header) → good n ≡ runLength 0 s (headOf h) → r ≡ headerOf h n → toldHeader (headerRead.Header r) ≡ header s
+    pub read : (n : ℕ) (r : Header) → good n ≡ optionRunLength 0 s (headOf h) → r ≡ headerOf h n → toldHeader (headerRead.Header r) ≡ header s
     unfolding header
     read n r e er =
         let d = opened-is 0 s (headOf h) (omega arith) e in
-        let o : runLength 0 s (head s) ≡ good n = rw (← eh) (sym e) in
+        let o : optionRunLength 0 s (head s) ≡ good n = rw (← eh) (sym e) in
         let g : good (headOf h, n) ≡ header s = sym (pass _ _ _ _ (le-ltb 65536 (length s) a) (step _ _ o (rw (← eh)))) in
         rw er (rw (d .version, d .kind) at g)
 

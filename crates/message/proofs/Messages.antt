@@ -12,8 +12,8 @@ use lib.Seq.{drop-cons, length-take-le}
 use Rattle.rules.specs.Outcome.{Outcome, good, bad, _>>=_, SHORT, LARGE, FRAGMENT, STANDARD}
 use Rattle.rules.specs.Bytes.{at, part, oneIfAny}
 use Rattle.rules.specs.Packages.{Fills, none, more, cut, packageOf}
-use Rattle.rules.specs.Message.{Head, head, front, checked, runLength, framed, parsed, Message, recordOf, message, recording}
-use Rattle.rules.specs.Reading.{packagesOf, counted}
+use Rattle.rules.specs.Message.{Head, head, payloadStart, checksOneToSix, optionRunLength, checksEightToTen, checksOneToTen, Message, recordOf, message, recording}
+use Rattle.rules.specs.Reading.{packagesOf, checkedRecording}
 use Rattle.rules.proofs.Outcomes.{pass, halt, step, stop, stepped, stop-before, good-inj, good≢bad, refused-step}
 use Rattle.rules.proofs.Passed.{passes}
 use Rattle.rules.proofs.Loops.{rest, Doing, doing-start, doing-next, doing-end, doing-bad}
@@ -48,35 +48,35 @@ uncut p s e = ⊎-elim (λ z. z) (λ z. absurd (good≢bad (sym (z .2)))) (refus
 
 module _ (p : ℕ) (s : List ℕ) (h : Head) (n : ℕ) where
   pub fragment : (h .flags / 16 % 4 ≡ 0 → ⊥) → bad FRAGMENT p ≡ framedSpot p s h n
-  unfolding framedSpot framed
+  unfolding framedSpot checksEightToTen
   fragment a = sym (stop _ _ (halt _ _ _ _ (isnt (h .flags / 16 % 4) 0 a)))
 
   module _ (a : h .flags / 16 % 4 ≡ 0) (o : Opened s h p) (f z : ℕ) (ef : f ≡ 24 + 4 * h .words) (ez : z ≡ h .size) (b : ℕ) (eb : b ≡ between f z) where
-    some-payload : oneIfAny (part (front h) (h .size) s) ≡ b
-    some-payload = any-part s (front h) (h .size) (o .most) ∙ rw (← ef, ← ez) (sym eb)
+    some-payload : oneIfAny (part (payloadStart h) (h .size) s) ≡ b
+    some-payload = any-part s (payloadStart h) (h .size) (o .most) ∙ rw (← ef, ← ez) (sym eb)
 
     pub standard : (h .flags / 128 % 2 ≡ b → ⊥) → bad STANDARD p ≡ framedSpot p s h n
-    unfolding framedSpot framed
+    unfolding framedSpot checksEightToTen
     standard c =
-        let q : oneIfAny (part (front h) (h .size) s) ≡ b = some-payload in
-        sym (stop _ _ (pass _ _ _ _ (is (h .flags / 16 % 4) 0 a) (halt _ _ _ _ (isnt (h .flags / 128 % 2) (oneIfAny (part (front h) (h .size) s)) (λ w. c (w ∙ q))))))
+        let q : oneIfAny (part (payloadStart h) (h .size) s) ≡ b = some-payload in
+        sym (stop _ _ (pass _ _ _ _ (is (h .flags / 16 % 4) 0 a) (halt _ _ _ _ (isnt (h .flags / 128 % 2) (oneIfAny (part (payloadStart h) (h .size) s)) (λ w. c (w ∙ q))))))
 
     module _ (c : h .flags / 128 % 2 ≡ b) where
-      fits : h .flags / 128 % 2 ≡ oneIfAny (part (front h) (h .size) s)
+      fits : h .flags / 128 % 2 ≡ oneIfAny (part (payloadStart h) (h .size) s)
       fits = c ∙ sym some-payload
 
       pub no-cut : {m q : ℕ} → bad m q ≡ cutCount (p + f) (take (z - f) (drop f s)) → bad m q ≡ framedSpot p s h n
-      unfolding framedSpot framed cutCount
+      unfolding framedSpot checksEightToTen cutCount
       no-cut {m} {q} e =
-          let g : cutCount (p + front h) (part (front h) (h .size) s) ≡ bad m q = sym (rw (ef, ez) at e) in
-          sym (stop _ _ (pass _ _ _ _ (is (h .flags / 16 % 4) 0 a) (pass _ _ _ _ (is (h .flags / 128 % 2) (oneIfAny (part (front h) (h .size) s)) fits) (uncut (p + front h) (part (front h) (h .size) s) g))))
+          let g : cutCount (p + payloadStart h) (part (payloadStart h) (h .size) s) ≡ bad m q = sym (rw (ef, ez) at e) in
+          sym (stop _ _ (pass _ _ _ _ (is (h .flags / 16 % 4) 0 a) (pass _ _ _ _ (is (h .flags / 128 % 2) (oneIfAny (part (payloadStart h) (h .size) s)) fits) (uncut (p + payloadStart h) (part (payloadStart h) (h .size) s) g))))
 
       pub whole : (k : ℕ) → good k ≡ cutCount (p + f) (take (z - f) (drop f s)) → good (record { head = h; run = n; payload = p + f; next = p + z; packages = k }) ≡ framedSpot p s h n
-      unfolding framedSpot framed cutCount messageSpot
+      unfolding framedSpot checksEightToTen cutCount messageSpot
       whole k e =
           let (cs, g, d) = stepped _ _ (sym (rw (ef, ez) at e)) in
           let w : length cs ≡ k = good-inj d in
-          sym (step _ _ (pass _ _ _ _ (is (h .flags / 16 % 4) 0 a) (pass _ _ _ _ (is (h .flags / 128 % 2) (oneIfAny (part (front h) (h .size) s)) fits) g)) (rw (w, ef, ez)))
+          sym (step _ _ (pass _ _ _ _ (is (h .flags / 16 % 4) 0 a) (pass _ _ _ _ (is (h .flags / 128 % 2) (oneIfAny (part (payloadStart h) (h .size) s)) fits) g)) (rw (w, ef, ez)))
 
 -- the header as it is told
 pub told : (h : Raw) (n : ℕ) (r : Header) (x y k : ℕ) {o : Outcome MessageSpot} → h .version ≡ 1 → h .kind ≡ 0 → r ≡ headerOf h n
@@ -92,14 +92,14 @@ regroup (good cs) n f = refl
 regroup (bad x y) n f = refl
 
 module _ (p : ℕ) (s : List ℕ) (h : Raw) (eh : headOf h ≡ head s) where
-  pub not-open : {n q : ℕ} → bad n q ≡ runLength p s (headOf h) → bad n q ≡ messageHere p s
-  unfolding messageHere parsed
+  pub not-open : {n q : ℕ} → bad n q ≡ optionRunLength p s (headOf h) → bad n q ≡ messageHere p s
+  unfolding messageHere checksOneToTen
   not-open e = sym (stop _ _ (stop _ _ (rw (← eh) (sym e))))
 
-  pub framing : (n : ℕ) {o : Outcome MessageSpot} → good n ≡ runLength p s (headOf h) → o ≡ framedSpot p s (headOf h) n → o ≡ messageHere p s
-  unfolding messageHere parsed framedSpot
+  pub framing : (n : ℕ) {o : Outcome MessageSpot} → good n ≡ optionRunLength p s (headOf h) → o ≡ framedSpot p s (headOf h) n → o ≡ messageHere p s
+  unfolding messageHere checksOneToTen framedSpot
   framing n e f =
-      let g : runLength p s (head s) ≡ good n = rw (← eh) (sym e) in
+      let g : optionRunLength p s (head s) ≡ good n = rw (← eh) (sym e) in
       (rw eh at f) ∙ sym (ap (λ (x : Outcome (ℕ × List (List ℕ))). x >>= λ (r : ℕ × List (List ℕ)). good (messageSpot p (head s) r)) (step _ _ g refl) ∙ regroup _ _ _)
 
 -- ---- the message at a place of a recording
@@ -110,9 +110,9 @@ module _ (s : List ℕ) (p : ℕ) where
 
   module _ (a : length s ≤ 65536) where
     pub behind : length s < p → bad SHORT p ≡ messageAt s p
-    unfolding messageAt messageHere parsed runLength
+    unfolding messageAt messageHere checksOneToTen optionRunLength
     behind b =
-        let e : checked p (drop p s) (head (drop p s)) ≡ bad SHORT p = sym (short p (drop p s) (head (drop p s)) (omega (arith, length-drop p s))) in
+        let e : checksOneToSix p (drop p s) (head (drop p s)) ≡ bad SHORT p = sym (short p (drop p s) (head (drop p s)) (omega (arith, length-drop p s))) in
         sym (pass _ _ _ _ (le-ltb 65536 (length s) a) (stop _ _ (stop _ _ (stop-before _ _ e))))
 
     pub here : {o : Outcome MessageSpot} → o ≡ messageHere p (take (length s - p) (drop p s)) → o ≡ messageAt s p
@@ -142,8 +142,8 @@ reading p s d e =
     let (r, g, f) = stepped _ _ e in
     let q : messageSpot p (head s) r ≡ d = good-inj f in
     let w = passes p s (head s) r g in
-    let l = fill-least (Cut.sound 0 (p + front (head s)) (part (front (head s)) (head s .size) s) (w .packages)) in
-    let m : length (part (front (head s)) (head s .size) s) ≡ head s .size - front (head s) = length-take-le (head s .size - front (head s)) (drop (front (head s)) s) (omega (arith, length-drop (front (head s)) s, w .header .most)) in
+    let l = fill-least (Cut.sound 0 (p + payloadStart (head s)) (part (payloadStart (head s)) (head s .size) s) (w .packages)) in
+    let m : length (part (payloadStart (head s)) (head s .size) s) ≡ head s .size - payloadStart (head s) = length-take-le (head s .size - payloadStart (head s)) (drop (payloadStart (head s)) s) (omega (arith, length-drop (payloadStart (head s)) s, w .header .most)) in
     rw (← q) (record {
       record′ = recordOf s (head s) r;
       size = head s .size;
@@ -199,14 +199,14 @@ module _ (s : List ℕ) (i m n : ℕ) (c : Checking s i m n) where
   next d l e = behind-one d l (reading i (drop i s) d (sym (rw rest at e)))
 
   module _ (a : length s ≤ 65536) where
-    pub stopped : {k q : ℕ} → i < length s → bad k q ≡ messageHere i (take (length s - i) (drop i s)) → bad k q ≡ counted s
-    unfolding counted recording
+    pub stopped : {k q : ℕ} → i < length s → bad k q ≡ messageHere i (take (length s - i) (drop i s)) → bad k q ≡ checkedRecording s
+    unfolding checkedRecording recording
     stopped l e = sym (stop _ _ (pass _ _ _ _ (le-ltb 65536 (length s) a) (doing-bad message s (c .done) i (c .doing) l (unread i (drop i s) (sym (rw rest at e))))))
 
-    pub ended : length s ≤ i → good (m, n) ≡ counted s
-    unfolding counted recording
+    pub ended : length s ≤ i → good (m, n) ≡ checkedRecording s
+    unfolding checkedRecording recording
     ended l = sym (step _ _ (pass _ _ _ _ (le-ltb 65536 (length s) a) (doing-end message s (c .done) i (c .doing) l)) (rw (c .many, c .packs)))
 
-pub too-large : (s : List ℕ) → 65536 < length s → bad LARGE 65536 ≡ counted s
-unfolding counted recording
+pub too-large : (s : List ℕ) → 65536 < length s → bad LARGE 65536 ≡ checkedRecording s
+unfolding checkedRecording recording
 too-large s a = sym (stop _ _ (halt _ _ _ _ (lt-ltb 65536 (length s) a)))

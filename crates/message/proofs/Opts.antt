@@ -11,7 +11,7 @@ use lib.ListN.{length, take, drop, length-drop, drop-of-length-le}
 use lib.Seq.{getD-drop}
 use Rattle.rules.specs.Outcome.{good, bad, OPTION}
 use Rattle.rules.specs.Bytes.{at}
-use Rattle.rules.specs.Options.{sized, optionSize, optionFits, run}
+use Rattle.rules.specs.Options.{lengthAllowed, optionSize, optionFits, optionRunFrom}
 use Rattle.rules.proofs.Outcomes.{halt}
 use Rattle.rules.proofs.Run.{bounds}
 use Rattle.rules.proofs.Loops.{rest, running}
@@ -21,40 +21,40 @@ use Rattle.message.specs.declared.Opt.the-variants.{Ends, Takes, Bad}
 -- ---- sizes
 
 module _ (k n : ℕ) where
-  pub under : n < 2 → false ≡ sized k n
-  unfolding sized
+  pub under : n < 2 → false ≡ lengthAllowed k n
+  unfolding lengthAllowed
   under a = rw (lt-leb 2 n a)
 
-  pub over : 2 ≤ n → 60 < n → false ≡ sized k n
-  unfolding sized
+  pub over : 2 ≤ n → 60 < n → false ≡ lengthAllowed k n
+  unfolding lengthAllowed
   over a b = rw (le-leb 2 n a, lt-leb n 60 b)
 
   module _ (a : 2 ≤ n) (b : n ≤ 60) where
-    pub general : k < 0x82 → true ≡ sized k n
-    unfolding sized
+    pub general : k < 0x82 → true ≡ lengthAllowed k n
+    unfolding lengthAllowed
     general c = rw (le-leb 2 n a, le-leb n 60 b, lt-leb 0x82 k c, ne-eqb k 0x85 (λ z. omega arith), lt-leb 0x86 k (omega arith))
 
     module _ (c : 0x82 ≤ k) (d : k ≤ 0x84) where
-      pub short-text : n < 3 → false ≡ sized k n
-      unfolding sized
+      pub short-text : n < 3 → false ≡ lengthAllowed k n
+      unfolding lengthAllowed
       short-text e = rw (le-leb 2 n a, le-leb n 60 b, le-leb 0x82 k c, le-leb k 0x84 d, lt-leb 3 n e)
 
-      pub text : 3 ≤ n → leb n 32 ≡ sized k n
-      unfolding sized
+      pub text : 3 ≤ n → leb n 32 ≡ lengthAllowed k n
+      unfolding lengthAllowed
       text e = rw (le-leb 2 n a, le-leb n 60 b, le-leb 0x82 k c, le-leb k 0x84 d, le-leb 3 n e)
 
     module _ (c : 0x84 < k) where
-      pub six : k ≡ 0x85 → n ≡ 6 → true ≡ sized k n
-      unfolding sized
+      pub six : k ≡ 0x85 → n ≡ 6 → true ≡ lengthAllowed k n
+      unfolding lengthAllowed
       six d e = rw (le-leb 2 n a, le-leb n 60 b, le-leb 0x82 k (omega arith), lt-leb k 0x84 c, eq-eqb k 0x85 d, eq-eqb n 6 e)
 
-      pub eighteen : k ≡ 0x85 → (n ≡ 6 → ⊥) → eqb n 18 ≡ sized k n
-      unfolding sized
+      pub eighteen : k ≡ 0x85 → (n ≡ 6 → ⊥) → eqb n 18 ≡ lengthAllowed k n
+      unfolding lengthAllowed
       eighteen d e = rw (le-leb 2 n a, le-leb n 60 b, le-leb 0x82 k (omega arith), lt-leb k 0x84 c, eq-eqb k 0x85 d, ne-eqb n 6 e)
 
       module _ (d : k ≡ 0x85 → ⊥) where
-        pub fixed : k ≤ 0x87 → eqb n 6 ≡ sized k n
-        unfolding sized
+        pub fixed : k ≤ 0x87 → eqb n 6 ≡ lengthAllowed k n
+        unfolding lengthAllowed
         fixed e =
             let f : 0x86 ≤ k = at-least e in
             rw (le-leb 2 n a, le-leb n 60 b, le-leb 0x82 k (omega arith), lt-leb k 0x84 c, ne-eqb k 0x85 d, le-leb 0x86 k f, le-leb k 0x87 e)
@@ -66,8 +66,8 @@ module _ (k n : ℕ) where
                 go true t = absurd (d (eqb-true _ _ t))
                 go false t = omega (arith, d)
 
-        pub other : 0x87 < k → true ≡ sized k n
-        unfolding sized
+        pub other : 0x87 < k → true ≡ lengthAllowed k n
+        unfolding lengthAllowed
         other e = rw (le-leb 2 n a, le-leb n 60 b, le-leb 0x82 k (omega arith), lt-leb k 0x84 c, ne-eqb k 0x85 d, le-leb 0x86 k (omega arith), lt-leb k 0x87 e)
 
 -- ---- what stands at the start
@@ -89,14 +89,14 @@ module _ (o : List ℕ) (k : ℕ) (ek : k ≡ at o 0) where
         rw (some-kind, e, optionHere, optionFits) (rw z)
 
     module _ (b : 0x80 ≤ k) (n : ℕ) (en : n ≡ at o 1) where
-      pub not-sized : sized k n ≡ false → Bad ≡ optionHere o
+      pub not-sized : lengthAllowed k n ≡ false → Bad ≡ optionHere o
       unfolding optionHere optionFits
       not-sized e =
-          let f : sized (at o 0) (at o 1) ≡ false = rw (← ek, ← en) e in
+          let f : lengthAllowed (at o 0) (at o 1) ≡ false = rw (← ek, ← en) e in
           rw (some-kind, le-ltb (at o 0) 0x80 (omega arith), f, optionHere, optionFits)
 
-      module _ (z : ℕ) (ez : z ≡ n) (g : sized k n ≡ true) where
-        good-size : sized (at o 0) (at o 1) ≡ true
+      module _ (z : ℕ) (ez : z ≡ n) (g : lengthAllowed k n ≡ true) where
+        good-size : lengthAllowed (at o 0) (at o 1) ≡ true
         good-size = rw (← ek, ← en) g
 
         pub too-long : length o < z → Bad ≡ optionHere o
@@ -170,20 +170,20 @@ broken o e = go (eqb (at o 0) 0) refl (optionFits o) refl
 -- the option run goes on at index i
 pub record Running (p : ℕ) (o : List ℕ) (i : ℕ) : Type 0 where
   pub inside : i ≤ length o
-  pub same : run 0 p 0 o ≡ run 0 p i (drop i o)
+  pub same : optionRunFrom 0 p 0 o ≡ optionRunFrom 0 p i (drop i o)
 
 pub start : (p : ℕ) (o : List ℕ) → Running p o 0
 start p o = record { inside = omega arith; same = refl }
 
-run-ends : (p n : ℕ) (o : List ℕ) → at o 0 ≡ 0 → run 0 p n o ≡ good n
-unfolding run
+run-ends : (p n : ℕ) (o : List ℕ) → at o 0 ≡ 0 → optionRunFrom 0 p n o ≡ good n
+unfolding optionRunFrom
 run-ends p n [] e = refl
-run-ends p n (x ∷ o) e = rw (eq-eqb x 0 e, run)
+run-ends p n (x ∷ o) e = rw (eq-eqb x 0 e, optionRunFrom)
 
-run-bad : (p n : ℕ) (o : List ℕ) → 1 ≤ length o → Broken o → run 0 p n o ≡ bad OPTION (p + n)
-unfolding run
+run-bad : (p n : ℕ) (o : List ℕ) → 1 ≤ length o → Broken o → optionRunFrom 0 p n o ≡ bad OPTION (p + n)
+unfolding optionRunFrom
 run-bad p n [] l b = absurd (omega arith)
-run-bad p n (x ∷ o) l b = rw (b .kind, run) (halt _ _ _ _ (rw (b .fits)))
+run-bad p n (x ∷ o) l b = rw (b .kind, optionRunFrom) (halt _ _ _ _ (rw (b .fits)))
 
 pub record Onward (p : ℕ) (o : List ℕ) (i n : ℕ) : Type 0 where
   pub least : 1 ≤ n
@@ -204,12 +204,12 @@ module _ (p : ℕ) (o : List ℕ) (i : ℕ) (r : Running p o i) (l : i < length 
         };
       }
 
-  pub ended : Ends ≡ optionHere (take (length o - i) (drop i o)) → good i ≡ run 0 p 0 o
+  pub ended : Ends ≡ optionHere (take (length o - i) (drop i o)) → good i ≡ optionRunFrom 0 p 0 o
   ended e = sym (r .same ∙ run-ends p i (drop i o) (ended-by (drop i o) (sym (rw rest at e))))
 
-  pub stopped : Bad ≡ optionHere (take (length o - i) (drop i o)) → bad OPTION (p + i) ≡ run 0 p 0 o
+  pub stopped : Bad ≡ optionHere (take (length o - i) (drop i o)) → bad OPTION (p + i) ≡ optionRunFrom 0 p 0 o
   stopped e = sym (r .same ∙ run-bad p i (drop i o) (omega (arith, length-drop i o)) (broken (drop i o) (sym (rw rest at e))))
 
-pub all : (p : ℕ) (o : List ℕ) (i : ℕ) → Running p o i → length o ≤ i → good i ≡ run 0 p 0 o
-unfolding run
+pub all : (p : ℕ) (o : List ℕ) (i : ℕ) → Running p o i → length o ≤ i → good i ≡ optionRunFrom 0 p 0 o
+unfolding optionRunFrom
 all p o i r l = sym (r .same ∙ rw (drop-of-length-le o l))

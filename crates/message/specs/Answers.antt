@@ -11,7 +11,7 @@ use Rattle.rules.specs.Outcome.{Outcome, good, _>>=_}
 use Rattle.rules.specs.Bytes.{at, half, pad}
 use Rattle.rules.specs.Options.{optionSize, optionFits}
 use Rattle.rules.specs.Packages.{packageFits, cut}
-use Rattle.rules.specs.Message.{Head, head, framed, parsed}
+use Rattle.rules.specs.Message.{Head, head, checksEightToTen, checksOneToTen}
 use Rattle.rules.specs.Reading.{MessageSpot, messageSpot}
 use Rattle.rules.specs.Walk.{PackageSpot}
 use Rattle.refusal.specs.Numbers.{refused}
@@ -141,13 +141,13 @@ toldPackage (packageRead.Refused r) = refused r
 -- checks 8 to 10, behind an option run of n bytes
 unfoldable pub framedSpot : ℕ → List ℕ → Head → ℕ → Outcome MessageSpot
 framedSpot p s h n = do
-  cs ← framed p s h
+  cs ← checksEightToTen p s h
   good (messageSpot p h (n, cs))
 
 -- the message at the start of s, which stands at place p
 unfoldable pub messageHere : ℕ → List ℕ → Outcome MessageSpot
 messageHere p s = do
-  r ← parsed p s (head s)
+  r ← checksOneToTen p s (head s)
   good (messageSpot p (head s) r)
 
 abbrev pub spotTold : Message → MessageSpot

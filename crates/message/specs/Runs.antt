@@ -2,7 +2,7 @@
 use Prim.Native.Nat.{ℕ, zero}
 use mathlib.Core.List.{List}
 use Rattle.rules.specs.Outcome.{Outcome, _>>_}
-use Rattle.rules.specs.Options.{run}
+use Rattle.rules.specs.Options.{optionRunFrom}
 use Rattle.rules.specs.Message.{notLarge}
 use Rattle.message.specs.Answers.{cutCount}
 
@@ -10,7 +10,7 @@ use Rattle.message.specs.Answers.{cutCount}
 unfoldable pub optionsOf : List ℕ → Outcome ℕ
 optionsOf o = do
   notLarge o
-  run zero zero zero o
+  optionRunFrom zero zero zero o
 
 -- how many packages a bare run holds
 unfoldable pub cutOf : List ℕ → Outcome ℕ

@@ -147,7 +147,7 @@ fn shut(why: Why, place: usize) -> Gate
 
 // Checks 1 to 6 of the message at the start of m, which stands at place p.
 fn judge(m: &[u8], h: Raw, p: usize) -> Gate
-    ensures { λ r. ⌜ spec.toldGate r ≡ rule.checked p (now (m .entry)) (spec.headOf h) ⌝ }
+    ensures { λ r. ⌜ spec.toldGate r ≡ rule.checksOneToSix p (now (m .entry)) (spec.headOf h) ⌝ }
 {
     if m.len() < 24 {
         return shut(Why::Short, p);
@@ -176,7 +176,7 @@ fn judge(m: &[u8], h: Raw, p: usize) -> Gate
 
 // Whether an option of kind k, 0x80 or above, may have n bytes.
 fn sized(k: u8, n: u8) -> bool
-    ensures { λ r. ⌜ r ≡ options.sized k n ⌝ }
+    ensures { λ r. ⌜ r ≡ options.lengthAllowed k n ⌝ }
 {
     if n < 2 {
         return false;
@@ -242,7 +242,7 @@ pub enum Count {
 // How long the option run of the option bytes o is, which stand at place p: check 7.
 fn run_of(o: &[u8], p: usize) -> Count
     requires { ⌜ p + length (now o) < 4294967296 ⌝ }
-    ensures { λ r. ⌜ spec.toldCount r ≡ options.run 0 p 0 (now (o .entry)) ⌝ }
+    ensures { λ r. ⌜ spec.toldCount r ≡ options.optionRunFrom 0 p 0 (now (o .entry)) ⌝ }
 {
     let mut i = 0;
     while i < o.len() {
@@ -267,7 +267,7 @@ fn run_of(o: &[u8], p: usize) -> Count
 // Checks 1 to 7 of the message at the start of m, which stands at place p: how long its option run is.
 fn opened(m: &[u8], h: Raw, p: usize) -> Count
     requires { ⌜ p + length (now m) < 4294967296 ⌝ }
-    ensures { λ r. ⌜ spec.toldCount r ≡ rule.runLength p (now (m .entry)) (spec.headOf h) ⌝ }
+    ensures { λ r. ⌜ spec.toldCount r ≡ rule.optionRunLength p (now (m .entry)) (spec.headOf h) ⌝ }
 {
     match judge(m, h, p) {
         Gate::Shut(r) => Count::Refused(r),
@@ -493,7 +493,7 @@ pub fn message_at(s: &[u8], at: usize) -> MessageRead
 
 // How many messages and packages a recording has.
 pub fn check(s: &[u8]) -> Checked
-    ensures { λ r. ⌜ spec.toldCheck r ≡ reading.counted (now (s .entry)) ⌝ }
+    ensures { λ r. ⌜ spec.toldCheck r ≡ reading.checkedRecording (now (s .entry)) ⌝ }
 {
     if 65536 < s.len() {
         return Checked::Refused(Refusal {

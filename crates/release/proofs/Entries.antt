@@ -13,10 +13,10 @@ use Rattle.rules.specs.Bytes.{part}
 use Rattle.rules.specs.Packages as rules
 use Rattle.rules.specs.Packages.{cut, packageOf, pieceOf, packageTime}
 use Rattle.rules.specs.Message as messages
-use Rattle.rules.specs.Message.{head, front, parsed, recordOf, message}
+use Rattle.rules.specs.Message.{head, payloadStart, checksOneToTen, recordOf, message}
 use Rattle.rules.specs.Writer.{write}
 use Rattle.rules.specs.Sheet as rows
-use Rattle.rules.specs.Copy.{granted, Entry, grantedPackages, enter, released, count, stamp, rendered, packagesIn}
+use Rattle.rules.specs.Copy.{granted, Entry, grantedPackages, withEntryOf, released, count, copyMessage, copyBytes, packagesIn}
 use Rattle.rules.proofs.Outcomes.{pass, step, stop, passed, stepped, good-inj, good≢bad, refused-step}
 use Rattle.rules.proofs.Cut as Cut
 use Rattle.rules.proofs.Passed.{Passed, passes}
@@ -42,12 +42,12 @@ entryBytes h n (p ∷ ps) = headBytes h n (24 + length (payloadOf (p ∷ ps))) +
 -- a message that was read
 pub record Met (tape : List ℕ) (k : ℕ) (m : Message) : Type 0 where
   pub r : ℕ × List (List ℕ)
-  pub read : parsed k (drop k tape) (head (drop k tape)) ≡ good r
+  pub read : checksOneToTen k (drop k tape) (head (drop k tape)) ≡ good r
   pub flags : head (drop k tape) .flags ≡ m .header .flags
   pub id : head (drop k tape) .id ≡ m .header .id .0
   pub seconds : head (drop k tape) .seconds ≡ m .header .seconds
   pub nanos : head (drop k tape) .nanos ≡ m .header .nanos
-  pub payload : k + front (head (drop k tape)) ≡ m .payload
+  pub payload : k + payloadStart (head (drop k tape)) ≡ m .payload
   pub next : k + head (drop k tape) .size ≡ m .next
 
 module _ (tape : List ℕ) (k : ℕ) where
@@ -126,13 +126,13 @@ module _ (tape : List ℕ) (k : ℕ) (m : Message) (f : Met tape k m) where
   pub run-length : length run ≡ m .next - m .payload
   run-length = length-take-le (m .next - m .payload) (drop (m .payload) tape) (omega (arith, inside, length-drop (m .payload) tape))
 
-  run-is : run ≡ part (front (head t)) (head t .size) t
+  run-is : run ≡ part (payloadStart (head t)) (head t .size) t
   run-is =
-      let e : m .next - m .payload ≡ head t .size - front (head t) = omega (arith, f .payload, f .next) in
+      let e : m .next - m .payload ≡ head t .size - payloadStart (head t) = omega (arith, f .payload, f .next) in
       rw (e, ← f .payload, drop-drop)
 
   pub cut-is : cut 0 run ≡ good (f .r .1)
-  cut-is = rw run-is (Cut.complete (Cut.sound 0 (k + front (head t)) (part (front (head t)) (head t .size) t) (it-passes .packages)) 0)
+  cut-is = rw run-is (Cut.complete (Cut.sound 0 (k + payloadStart (head t)) (part (payloadStart (head t)) (head t .size) t) (it-passes .packages)) 0)
 
   module _ (rs : List rows.Row) where
     -- its granted packages
@@ -143,7 +143,7 @@ module _ (tape : List ℕ) (k : ℕ) (m : Message) (f : Met tape k m) where
     unfolding kept recordOf
     granted-are = granteds-same it (who (m .header)) (f .id) (f .seconds) (f .nanos) rs (map packageOf (f .r .1))
 
-    pub grown : (done : List messages.Message) → released rs (done ++ (it ∷ [])) ≡ released rs done ++ enter it ps []
+    pub grown : (done : List messages.Message) → released rs (done ++ (it ∷ [])) ≡ released rs done ++ withEntryOf it ps []
     grown done = rw (released-snoc rs done it, granted-are)
 
     -- the bytes that it adds
@@ -152,9 +152,9 @@ module _ (tape : List ℕ) (k : ℕ) (m : Message) (f : Met tape k m) where
     flags-are = rw (f .flags) (flag-bits (m .header .flags))
 
     written : (n : ℕ) (p : rules.Package) (qs : List rules.Package)
-        → write (stamp n (record { id = it .id; seconds = it .seconds; nanos = it .nanos; flags = it .flags / 2 % 8 * 2; packages = p ∷ qs }))
+        → write (copyMessage n (record { id = it .id; seconds = it .seconds; nanos = it .nanos; flags = it .flags / 2 % 8 * 2; packages = p ∷ qs }))
         ≡ headBytes (m .header) n (24 + length (payloadOf (p ∷ qs))) ++ payloadOf (p ∷ qs)
-    unfolding write stamp headBytes recordOf
+    unfolding write copyMessage headBytes recordOf
     written n p qs =
         let e : 64 + it .flags / 2 % 8 * 2 + 128 ≡ 192 + m .header .flags / 2 % 8 * 2 = omega (arith, flags-are) in
         rw (e, f .id, f .seconds, f .nanos)
@@ -163,10 +163,10 @@ module _ (tape : List ℕ) (k : ℕ) (m : Message) (f : Met tape k m) where
     unfolding recordOf
     id-is = f .id
 
-    pub rendered-grown : (es : List Entry) (qs : List rules.Package) → rendered (es ++ enter it qs []) ≡ rendered es ++ entryBytes (m .header) (count (m .header .id .0) (map idOf es)) qs
-    unfolding enter entryBytes
-    rendered-grown es [] = rw append-nil (sym (append-nil (rendered es)))
-    rendered-grown es (p ∷ qs) = rendered-snoc es _ ∙ ap (λ (s : List ℕ). rendered es ++ s) (written (count (it .id) (map idOf es)) p qs ∙ rw id-is)
+    pub rendered-grown : (es : List Entry) (qs : List rules.Package) → copyBytes (es ++ withEntryOf it qs []) ≡ copyBytes es ++ entryBytes (m .header) (count (m .header .id .0) (map idOf es)) qs
+    unfolding withEntryOf entryBytes
+    rendered-grown es [] = rw append-nil (sym (append-nil (copyBytes es)))
+    rendered-grown es (p ∷ qs) = rendered-snoc es _ ∙ ap (λ (s : List ℕ). copyBytes es ++ s) (written (count (it .id) (map idOf es)) p qs ∙ rw id-is)
 
 -- a message of the copy has its header, and one package at least
 pub entry-length : (h : Header) (n : ℕ) (p : rules.Package) (qs : List rules.Package) → length (entryBytes h n (p ∷ qs)) ≡ 24 + length (payloadOf (p ∷ qs))
@@ -185,15 +185,15 @@ packages-snoc (d ∷ es) e = omega (arith, packages-snoc es e)
 module _ (tape : List ℕ) (k : ℕ) (m : Message) (f : Met tape k m) (rs : List rows.Row) where
   -- the totals with what it adds
   pub totals-grown : (es : List Entry) (qs : List rules.Package) (s : Size) → s .bytes ≡ length (payloadOf qs) → s .packages ≡ length qs
-      → withEntry (totals es) s ≡ totals (es ++ enter (it tape k m f) qs [])
-  unfolding enter
+      → withEntry (totals es) s ≡ totals (es ++ withEntryOf (it tape k m f) qs [])
+  unfolding withEntryOf
   totals-grown es [] s b p = rw (eq-eqb (s .packages) 0 p, append-nil)
   totals-grown es (q ∷ qs) s b p =
       let n : (s .packages ≡ 0 → ⊥) = λ z. omega arith in
       let n′ = count (m .header .id .0) (map idOf es) in
-      let e : length (rendered es) + 24 + s .bytes ≡ length (rendered (es ++ enter (it tape k m f) (q ∷ qs) [])) =
+      let e : length (copyBytes es) + 24 + s .bytes ≡ length (copyBytes (es ++ withEntryOf (it tape k m f) (q ∷ qs) [])) =
       rw (rendered-grown tape k m f rs es (q ∷ qs))
-      (omega (arith, length-append (rendered es) (entryBytes (m .header) n′ (q ∷ qs)), entry-length (m .header) n′ q qs)) in
+      (omega (arith, length-append (copyBytes es) (entryBytes (m .header) n′ (q ∷ qs)), entry-length (m .header) n′ q qs)) in
       rw (ne-eqb (s .packages) 0 n, e, packages-snoc, p, length-append)
 
 -- one message more

@@ -11,7 +11,7 @@ use Rattle.rules.specs.Outcome.{good, bad}
 use Rattle.rules.specs.Message as messages
 use Rattle.rules.specs.Message.{message, recording}
 use Rattle.rules.specs.Sheet as rows
-use Rattle.rules.specs.Copy.{released, stamped, rendered, packagesIn}
+use Rattle.rules.specs.Copy.{released, copyMessages, copyBytes, packagesIn}
 use Rattle.rules.proofs.Outcomes.{pass, halt, step, stop}
 use Rattle.rules.proofs.Loops.{Doing, doing-start, doing-end, doing-bad}
 use Rattle.refusal.specs.declared.Refusal.{Refusal}
@@ -46,7 +46,7 @@ pub record Tallying (rs : List rows.Row) (tape : List ℕ) (t : Totals) (k : ℕ
 
 module _ (rs : List rows.Row) (tape : List ℕ) (short : length tape ≤ 65536) where
   pub tally-start : Tallying rs tape (record { bytes = 0; messages = 0; packages = 0 }) 0
-  unfolding released rendered stamped packagesIn
+  unfolding released copyBytes copyMessages packagesIn
   tally-start = record { done = []; doing = doing-start message tape; inside = omega arith; bounds = record { small = omega arith; few = omega arith; fewer = omega arith }; so-far = refl }
 
   module _ (t : Totals) (k : ℕ) (inv : Tallying rs tape t k) where

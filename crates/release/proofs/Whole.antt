@@ -10,7 +10,7 @@ use Rattle.rules.specs.Outcome.{good, bad}
 use Rattle.rules.specs.Message as messages
 use Rattle.rules.specs.Message.{recording}
 use Rattle.rules.specs.Sheet as rows
-use Rattle.rules.specs.Copy.{Entry, released, rendered, releasedOf, answered, copy}
+use Rattle.rules.specs.Copy.{Entry, released, copyBytes, releasedOf, answered, copy}
 use Rattle.rules.specs.Sheet.{sheetRows}
 use Rattle.rules.proofs.Outcomes.{step, stop, passed, stepped, good-inj, good≢bad, refused-step}
 use Rattle.rules.proofs.Interference.{copy-is, copy-roomless}
@@ -67,7 +67,7 @@ module _ (orders : List ℕ) (rs : List rows.Row) (valid : rows.sheet orders ≡
     none-written : length buffer < totals list .bytes → told (Copied.Refused (record { why = Room; place = totals list .bytes })) buffer ≡ copy orders tape buffer
     none-written l = sym (copy-roomless orders tape list list-is buffer l)
 
-    all-written : totals list .bytes ≤ length buffer → told (Copied.Written (totals list)) (sets buffer 0 (rendered list)) ≡ copy orders tape buffer
+    all-written : totals list .bytes ≤ length buffer → told (Copied.Written (totals list)) (sets buffer 0 (copyBytes list)) ≡ copy orders tape buffer
     all-written l = sym (copy-is orders tape list list-is buffer l)
 
   module _ (t : Totals) (e : good t ≡ measured rs tape) where
@@ -91,4 +91,4 @@ module _ (orders : List ℕ) (rs : List rows.Row) (valid : rows.sheet orders ≡
     pub copied : t .bytes ≤ length buffer → (out : List ℕ) → Wrote rs tape buffer out → told (Copied.Written t) out ≡ copy orders tape buffer
     copied l out w =
         ap (told (Copied.Written t)) (w .right (passes .ms) (passes .read))
-        ∙ subst (λ (x : Totals). x .bytes ≤ length buffer → told (Copied.Written x) (sets buffer 0 (rendered (released rs (passes .ms)))) ≡ copy orders tape buffer) (passes .sum) (all-written (passes .ms) (passes .read)) l
+        ∙ subst (λ (x : Totals). x .bytes ≤ length buffer → told (Copied.Written x) (sets buffer 0 (copyBytes (released rs (passes .ms)))) ≡ copy orders tape buffer) (passes .sum) (all-written (passes .ms) (passes .read)) l

@@ -12,7 +12,7 @@ use Rattle.rules.specs.Packages as rules
 use Rattle.rules.specs.Message as messages
 use Rattle.rules.specs.Message.{message, recording}
 use Rattle.rules.specs.Sheet as rows
-use Rattle.rules.specs.Copy.{Entry, enter, released, count, stamped, rendered}
+use Rattle.rules.specs.Copy.{Entry, withEntryOf, released, count, copyMessages, copyBytes}
 use Rattle.rules.proofs.Outcomes.{pass, good-inj, good≢bad}
 use Rattle.rules.proofs.Growing.{map-append}
 use Rattle.rules.specs.Copy.{idOf}
@@ -35,13 +35,13 @@ pub record Writing (rs : List rows.Row) (tape before after ids numbers : List �
   pub inside : k ≤ length tape
   pub counts : Counts ids numbers held (map idOf (released rs done))
   pub few : 36 * length (map idOf (released rs done)) ≤ k
-  pub ends : to ≡ length (rendered (released rs done))
+  pub ends : to ≡ length (copyBytes (released rs done))
   pub short : to ≤ k
-  pub stored : after ≡ sets before 0 (rendered (released rs done))
+  pub stored : after ≡ sets before 0 (copyBytes (released rs done))
 
 module _ (rs : List rows.Row) (tape before : List ℕ) (short : length tape ≤ 65536) where
   pub write-start : (ids : List ℕ) (n : ℕ) → Writing rs tape before before ids (replicate n 0) 0 0 0
-  unfolding released rendered stamped
+  unfolding released copyBytes copyMessages
   write-start ids n = record {
     done = [];
     doing = doing-start message tape;
@@ -89,7 +89,7 @@ module _ (rs : List rows.Row) (tape before : List ℕ) (short : length tape ≤ 
         module _ (out : List ℕ) (r : ℕ) (z : StoredRun rs (who (m .header)) run after out (to + 24) r) where
           -- what is stored, with the granted packages as a variable
           record With (qs : List rules.Package) : Type 0 where
-            grows : released rs (inv .done ++ (it tape k m g ∷ [])) ≡ es ++ enter (it tape k m g) qs []
+            grows : released rs (inv .done ++ (it tape k m g ∷ [])) ≡ es ++ withEntryOf (it tape k m g) qs []
             size : r ≡ length (payloadOf qs)
             bytes : out ≡ sets after (to + 24) (payloadOf qs)
 
@@ -103,7 +103,7 @@ module _ (rs : List rows.Row) (tape before : List ℕ) (short : length tape ≤ 
 
           -- no entry
           none-with : (qs : List rules.Package) → With qs → r ≡ 0 → Writing rs tape before out ids numbers held to (m .next)
-          unfolding enter
+          unfolding withEntryOf
           none-with (q ∷ qs) w h = absurd (omega (arith, w .size, payload-least q qs))
           none-with [] w h =
               let s : released rs (inv .done ++ (it tape k m g ∷ [])) ≡ es = w .grows ∙ append-nil es in
@@ -140,12 +140,12 @@ module _ (rs : List rows.Row) (tape before : List ℕ) (short : length tape ≤ 
                   (sets-before (headBytes (m .header) (count id (map idOf es)) (24 + length (payloadOf (q ∷ qs)))) (payloadOf (q ∷ qs)) after to)
 
               one-with : (qs : List rules.Package) → With qs → (r ≡ 0 → ⊥) → Writing rs tape before final (set ids place id) (set numbers place (sequence + 1)) (heldWith held place) (to + (24 + r)) (m .next)
-              unfolding enter
+              unfolding withEntryOf
               one-with [] w h = absurd (h (w .size))
               one-with (q ∷ qs) w h =
                   let bytes = entryBytes (m .header) (count id (map idOf es)) (q ∷ qs) in
-                  let n : rendered (es ++ enter (it tape k m g) (q ∷ qs) []) ≡ rendered es ++ bytes = rendered-grown tape k m g rs es (q ∷ qs) in
-                  let s : map idOf (es ++ enter (it tape k m g) (q ∷ qs) []) ≡ map idOf es ++ (id ∷ []) = rw (map-append, id-is tape k m g rs) in
+                  let n : copyBytes (es ++ withEntryOf (it tape k m g) (q ∷ qs) []) ≡ copyBytes es ++ bytes = rendered-grown tape k m g rs es (q ∷ qs) in
+                  let s : map idOf (es ++ withEntryOf (it tape k m g) (q ∷ qs) []) ≡ map idOf es ++ (id ∷ []) = rw (map-append, id-is tape k m g rs) in
                   record {
                     done = inv .done ++ (it tape k m g ∷ []);
                     doing = one-more tape (inv .done) k (inv .doing) l m g;
@@ -154,7 +154,7 @@ module _ (rs : List rows.Row) (tape before : List ℕ) (short : length tape ≤ 
                     few = rw (w .grows, s) (omega (arith, w .size, payload-least q qs, inv .few, z .small, length-append (map idOf es) (id ∷ []), run-length tape k m g, order tape k m g, behind tape k m g));
                     ends = rw (w .grows, n, length-append, entry-length (m .header) (count id (map idOf es)) q qs, ← w .size, inv .ends);
                     short = most;
-                    stored = rw (w .grows, n, entry q qs w, inv .stored, inv .ends) (rw zero-add at (sets-sets (rendered es) bytes before 0));
+                    stored = rw (w .grows, n, entry q qs w, inv .stored, inv .ends) (rw zero-add at (sets-sets (copyBytes es) bytes before 0));
                   }
 
               pub write-one : (r ≡ 0 → ⊥) → Writing rs tape before final (set ids place id) (set numbers place (sequence + 1)) (heldWith held place) (to + (24 + r)) (m .next)

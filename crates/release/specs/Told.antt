@@ -7,7 +7,7 @@ use lib.Seq.{sets}
 use Rattle.rules.specs.Outcome.{Outcome, good, _>>=_}
 use Rattle.rules.specs.Message.{Message, recording}
 use Rattle.rules.specs.Sheet as rows
-use Rattle.rules.specs.Copy.{Entry, released, rendered, packagesIn, Answer}
+use Rattle.rules.specs.Copy.{Entry, released, copyBytes, packagesIn, Answer}
 use Rattle.refusal.specs.Numbers.{numberOf, refused}
 use Rattle.release.specs.declared.Totals.{Totals}
 use Rattle.release.specs.declared.Measured.{Measured}
@@ -17,7 +17,7 @@ use Rattle.release.specs.declared.Copied.the-variants as Copy
 
 -- what the copy of a released list takes
 abbrev pub totals : List Entry → Totals
-totals es = record { bytes = length (rendered es); messages = length es; packages = packagesIn es }
+totals es = record { bytes = length (copyBytes es); messages = length es; packages = packagesIn es }
 
 unfoldable pub measured : List rows.Row → List ℕ → Outcome Totals
 measured rs tape = do
@@ -30,7 +30,7 @@ toldMeasure (Measure.Refused f) = refused f
 
 -- the buffer after, of a recording that passes
 pub record Wrote (rs : List rows.Row) (tape before after : List ℕ) : Type 0 where
-  pub right : (ms : List Message) → recording tape ≡ good ms → after ≡ sets before 0 (rendered (released rs ms))
+  pub right : (ms : List Message) → recording tape ≡ good ms → after ≡ sets before 0 (copyBytes (released rs ms))
 
 -- an answer's numbers
 abbrev pub numbers : Copied → Answer

@@ -9,9 +9,9 @@ use lib.ListN.{length, drop, length-append}
 use lib.Seq.{take-append-seam, drop-append-seam, drop-drop}
 use Rattle.rules.specs.Outcome.{good}
 use Rattle.rules.specs.Bytes.{at, word, pad, padded, part, join, oneIfAny}
-use Rattle.rules.specs.Options.{run}
+use Rattle.rules.specs.Options.{optionRunFrom}
 use Rattle.rules.specs.Packages.{Package, cut, pieceOf}
-use Rattle.rules.specs.Message.{Head, head, front, checked, runLength, framed, parsed, Message, recordOf, message}
+use Rattle.rules.specs.Message.{Head, head, payloadStart, checksOneToSix, optionRunLength, checksEightToTen, checksOneToTen, Message, recordOf, message}
 use Rattle.rules.specs.Writer.{write}
 use Rattle.rules.specs.Valid.{Valid}
 use Rattle.rules.proofs.Outcomes.{pass, pass-last, after, step}
@@ -125,8 +125,8 @@ module _ (m : Message) (v : Valid m) (t : List ℕ) where
       go (x ∷ l) = omega arith
 
   module _ (p : ℕ) where
-    checked-again : checked p (write m ++ t) header ≡ good tt
-    unfolding checked
+    checked-again : checksOneToSix p (write m ++ t) header ≡ good tt
+    unfolding checksOneToSix
     checked-again =
         pass _ _ _ _ (le-ltb (length (write m ++ t)) 24 (omega (arith, length-all)))
         (pass _ _ _ _ refl
@@ -138,25 +138,25 @@ module _ (m : Message) (v : Valid m) (t : List ℕ) where
         (pass _ _ _ _ (le-ltb (length (write m ++ t)) (24 + length options + length payload) (omega (arith, length-all)))
         (pass-last _ _ _ (le-ltb 999999999 (m .nanos) (v .nanos)))))))
 
-    run-again : runLength p (write m ++ t) header ≡ good (length (m .options))
-    unfolding runLength
+    run-again : optionRunLength p (write m ++ t) header ≡ good (length (m .options))
+    unfolding optionRunLength
     run-again =
         after _ _ checked-again
         (rw (words4, options-part (write m ++ t) options payload t body)
         (run-fill 0 0 (p + 24) 0 (m .options) (pad (length (m .options)) - length (m .options)) (omega arith) (omega arith) (v .run)))
 
-    cut-again : cut (p + front header) (part (front header) (header .size) (write m ++ t)) ≡ good (map pieceOf (m .packages))
+    cut-again : cut (p + payloadStart header) (part (payloadStart header) (header .size) (write m ++ t)) ≡ good (map pieceOf (m .packages))
     cut-again = rw (words4, payload-part (write m ++ t) options payload t body) (complete (filled (v .packages)) (p + (24 + length options)))
 
-    framed-again : framed p (write m ++ t) header ≡ good (map pieceOf (m .packages))
-    unfolding framed
+    framed-again : checksEightToTen p (write m ++ t) header ≡ good (map pieceOf (m .packages))
+    unfolding checksEightToTen
     framed-again =
         pass _ _ _ _ (rw (eq-eqb ((m .flags + oneIfAny (m .packages) * 128) / 16 % 4) 0 (omega (arith, v .flags, any-le))))
         (pass _ _ _ _ (rw (words4, payload-part (write m ++ t) options payload t body, any-pieces, eq-eqb ((m .flags + oneIfAny (m .packages) * 128) / 128 % 2) (oneIfAny (m .packages)) (seven (m .flags) (oneIfAny (m .packages)) any-le (v .flags))))
         cut-again)
 
-    parsed-again : parsed p (write m ++ t) header ≡ good (length (m .options), map pieceOf (m .packages))
-    unfolding parsed
+    parsed-again : checksOneToTen p (write m ++ t) header ≡ good (length (m .options), map pieceOf (m .packages))
+    unfolding checksOneToTen
     parsed-again = step _ _ run-again (step _ _ framed-again refl)
 
     record-again : recordOf (write m ++ t) header (length (m .options), map pieceOf (m .packages)) ≡ m

@@ -6,11 +6,11 @@ use borrow.Author.Tests.{le-ltb}
 use lib.ListN.{length}
 use Rattle.rules.specs.Outcome.{good, _>>=_, _>>_}
 use Rattle.rules.specs.Bytes.{part}
-use Rattle.rules.specs.Message.{headerBytes, notLarge, head, message, parsed}
+use Rattle.rules.specs.Message.{headerBytes, notLarge, head, message, checksOneToTen}
 use Rattle.rules.specs.Reading.{header, optionRun}
 use Rattle.rules.specs.Buffer.{fitted}
 use Rattle.rules.specs.Writer.{written, writer}
-use Rattle.rules.specs.Clean.{clean, cleaner}
+use Rattle.rules.specs.Clean.{cleanForm, cleaner}
 use Rattle.rules.specs.Copy.{releasedOf, roomFor, answered, copy}
 use Rattle.rules.specs.Burst.{randomizing, opening, randomizer, opener}
 use Rattle.rules.specs.Claims.{BuffersKept, WrittenRead, AcceptedValid, ReadValid, ReadWritten, PartsWritten, WriterWrites, CleanerWrites, SpotOfRecord, CleanTwice, CleanExactly, PackageExactly, CutExactly, WalkShowsAll, WalkStays, GrantedExactly, Recurrence, BitPeriod, TableEntry, RandomizedTwice, RandomizedByte, BurstOpened, TableHolds, SameCopies, DifferentCopies, CountsReleased, SequenceCounted, ReleasedEach, CopyRead, CopyPlain, OneOutcome, partsOf}
@@ -36,7 +36,7 @@ pub buffers-kept : BuffersKept
 unfolding writer cleaner copy randomizer opener
 buffers-kept = record {
   writer = λ d buffer. careful-stored buffer (written d >>= fitted buffer);
-  cleaner = λ s buffer. careful-stored buffer ((notLarge s >> clean s) >>= fitted buffer);
+  cleaner = λ s buffer. careful-stored buffer ((notLarge s >> cleanForm s) >>= fitted buffer);
   copy = λ sheet recording buffer. careful-answered buffer (releasedOf sheet recording >>= roomFor buffer);
   randomizer = λ buffer. kept-randomized buffer (randomizing buffer);
   opener = λ buffer. kept-opened buffer (opening buffer);
@@ -61,8 +61,8 @@ run-is : (s : List ℕ) (n : ℕ) → header s ≡ good (head s, n) → optionRu
 unfolding optionRun
 run-is s n e = rw (e, optionRun)
 
-parts-are : (s : List ℕ) (r : ℕ × List (List ℕ)) → length s ≤ 65536 → parsed 0 s (head s) ≡ good r → partsOf s (head s) ≡ parts s r
-unfolding parsed header
+parts-are : (s : List ℕ) (r : ℕ × List (List ℕ)) → length s ≤ 65536 → checksOneToTen 0 s (head s) ≡ good r → partsOf s (head s) ≡ parts s r
+unfolding checksOneToTen header
 parts-are s r l q =
     let (n, o, e) = stepped _ _ q in
     let (cs, f, e) = stepped _ _ e in
@@ -71,7 +71,7 @@ parts-are s r l q =
     rw (run-is s n h, z)
 
 pub parts-give-clean : PartsWritten
-unfolding message clean
+unfolding message cleanForm
 parts-give-clean s b l m n e =
     let (r, q, z) = stepped _ _ e in
     ap written (parts-are s r l q) ∙ parts-written 0 s r b l (passes 0 s (head s) r q) ∙ sym (step _ _ q refl)
@@ -82,7 +82,7 @@ writer-writes d buffer c e l = writes buffer c (written d) e l
 
 pub cleaner-writes : CleanerWrites
 unfolding cleaner
-cleaner-writes s buffer c h e l = writes buffer c (notLarge s >> clean s) (pass _ _ _ _ (le-ltb 65536 (length s) h) e) l
+cleaner-writes s buffer c h e l = writes buffer c (notLarge s >> cleanForm s) (pass _ _ _ _ (le-ltb 65536 (length s) h) e) l
 
 pub spot-of-record : SpotOfRecord
 spot-of-record = of-record

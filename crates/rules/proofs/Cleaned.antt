@@ -8,9 +8,9 @@ use lib.ListN.{length, take, drop, length-drop}
 use lib.Seq.{take-add, drop-cons, drop-drop, length-take-le}
 use Rattle.rules.specs.Bytes.{Bytes, at, half, word, put32, pad, part, oneIfAny}
 use Rattle.rules.specs.Packages.{packageOf, pieceOf, Piece, Fills, none, more}
-use Rattle.rules.specs.Message.{head, front, recordOf}
+use Rattle.rules.specs.Message.{head, payloadStart, recordOf}
 use Rattle.rules.specs.Writer.{write}
-use Rattle.rules.specs.Clean.{cleanPiece, cleaned}
+use Rattle.rules.specs.Clean.{cleanPiece, cleanBytes}
 use Rattle.rules.proofs.Numbers.{put32-at, put16-at, bytes-drop, bytes-take, bytes-left, bytes-right}
 use Rattle.rules.proofs.Cut as Cut
 use Rattle.rules.proofs.Passed.{Passed}
@@ -71,17 +71,17 @@ flags-back f a l g h =
     omega arith
 
 module _ (p : ℕ) (s : List ℕ) (r : ℕ × List (List ℕ)) (b : Bytes s) (w : Passed p s (head s) r) where
-  pub fills : Fills (r .1) (part (front (head s)) (head s .size) s)
-  fills = Cut.sound 0 (p + front (head s)) (part (front (head s)) (head s .size) s) (w .packages)
+  pub fills : Fills (r .1) (part (payloadStart (head s)) (head s .size) s)
+  fills = Cut.sound 0 (p + payloadStart (head s)) (part (payloadStart (head s)) (head s .size) s) (w .packages)
 
-  pub payload-bytes : Bytes (part (front (head s)) (head s .size) s)
-  payload-bytes = bytes-take (head s .size - front (head s)) (drop (front (head s)) s) (bytes-drop (front (head s)) s b)
+  pub payload-bytes : Bytes (part (payloadStart (head s)) (head s .size) s)
+  payload-bytes = bytes-take (head s .size - payloadStart (head s)) (drop (payloadStart (head s)) s) (bytes-drop (payloadStart (head s)) s b)
 
   two : (k : ℕ) (t : List ℕ) → k + 8 ≤ length s → put32 (word s k) (put32 (word s (k + 4)) t) ≡ take 8 (drop k s) ++ t
   two k t l = rw (put32-at k s _ b (omega arith), put32-at (k + 4) s _ b (omega arith), take-add 4 4 (drop k s), drop-drop 4 k s) (simp append-assoc)
 
-  pub write-read : write (recordOf s (head s) r) ≡ cleaned s r
-  unfolding write recordOf cleaned head
+  pub write-read : write (recordOf s (head s) r) ≡ cleanBytes s r
+  unfolding write recordOf cleanBytes head
   write-read =
       rw (
         flags-back (at s 3) (oneIfAny (map packageOf (r .1))) (b .below 3) (w .fragment) (w .standard ∙ sym (any-filled fills)),

@@ -11,7 +11,7 @@ use Rattle.rules.specs.Packages.{Package}
 use Rattle.rules.specs.Message.{Message}
 use Rattle.rules.specs.Writer.{write}
 use Rattle.rules.specs.Sheet.{Row}
-use Rattle.rules.specs.Copy.{Entry, idOf, grantedPackages, enter, released, count, stamp, stamped, rendered}
+use Rattle.rules.specs.Copy.{Entry, idOf, grantedPackages, withEntryOf, released, count, copyMessage, copyMessages, copyBytes}
 
 -- lists one behind the other
 pub join-append : (cs ds : List (List ℕ)) → join (cs ++ ds) ≡ join cs ++ join ds
@@ -23,8 +23,8 @@ map-append f [] m = refl
 map-append f (a ∷ l) m = ap (λ (r : List _). f a ∷ r) (map-append f l m)
 
 -- the released list of more messages
-enter-append : (m : Message) (ps : List Package) (es fs : List Entry) → enter m ps (es ++ fs) ≡ enter m ps es ++ fs
-unfolding enter
+enter-append : (m : Message) (ps : List Package) (es fs : List Entry) → withEntryOf m ps (es ++ fs) ≡ withEntryOf m ps es ++ fs
+unfolding withEntryOf
 enter-append m [] es fs = refl
 enter-append m (p ∷ ps) es fs = refl
 
@@ -34,7 +34,7 @@ released-append rs [] ns = refl
 released-append rs (m ∷ ms) ns = rw (released-append rs ms ns, enter-append)
 
 -- one message more: no entry, or one
-pub released-snoc : (rs : List Row) (ms : List Message) (m : Message) → released rs (ms ++ (m ∷ [])) ≡ released rs ms ++ enter m (grantedPackages rs m (m .packages)) []
+pub released-snoc : (rs : List Row) (ms : List Message) (m : Message) → released rs (ms ++ (m ∷ [])) ≡ released rs ms ++ withEntryOf m (grantedPackages rs m (m .packages)) []
 unfolding released
 released-snoc rs ms m = released-append rs ms (m ∷ [])
 
@@ -43,10 +43,10 @@ ids : List Entry → List ℕ → List ℕ
 ids [] seen = seen
 ids (e ∷ es) seen = ids es (e .id ∷ seen)
 
-stamped-append : (seen : List ℕ) (es fs : List Entry) → stamped seen (es ++ fs) ≡ stamped seen es ++ stamped (ids es seen) fs
-unfolding stamped ids
+stamped-append : (seen : List ℕ) (es fs : List Entry) → copyMessages seen (es ++ fs) ≡ copyMessages seen es ++ copyMessages (ids es seen) fs
+unfolding copyMessages ids
 stamped-append seen [] fs = refl
-stamped-append seen (e ∷ es) fs = ap (λ (r : List Message). stamp (count (e .id) seen) e ∷ r) (stamped-append (e .id ∷ seen) es fs)
+stamped-append seen (e ∷ es) fs = ap (λ (r : List Message). copyMessage (count (e .id) seen) e ∷ r) (stamped-append (e .id ∷ seen) es fs)
 
 -- how often an id was seen does not depend on the order
 count-ids : (x : ℕ) (es : List Entry) (seen : List ℕ) → count x (ids es seen) ≡ count x (map idOf es) + count x seen
@@ -60,12 +60,12 @@ count-ids x (e ∷ es) seen = count-ids x es (e .id ∷ seen) ∙ go (eqb x (e .
     go false = refl
 
 -- the message of one entry more, and its copy
-pub stamped-snoc : (es : List Entry) (e : Entry) → stamped [] (es ++ (e ∷ [])) ≡ stamped [] es ++ (stamp (count (e .id) (map idOf es)) e ∷ [])
-unfolding stamped count
+pub stamped-snoc : (es : List Entry) (e : Entry) → copyMessages [] (es ++ (e ∷ [])) ≡ copyMessages [] es ++ (copyMessage (count (e .id) (map idOf es)) e ∷ [])
+unfolding copyMessages count
 stamped-snoc es e =
     let c : count (e .id) (ids es []) ≡ count (e .id) (map idOf es) = count-ids (e .id) es [] ∙ add-zero _ in
     rw (stamped-append [] es (e ∷ []), c)
 
-pub rendered-snoc : (es : List Entry) (e : Entry) → rendered (es ++ (e ∷ [])) ≡ rendered es ++ write (stamp (count (e .id) (map idOf es)) e)
-unfolding rendered
+pub rendered-snoc : (es : List Entry) (e : Entry) → copyBytes (es ++ (e ∷ [])) ≡ copyBytes es ++ write (copyMessage (count (e .id) (map idOf es)) e)
+unfolding copyBytes
 rendered-snoc es e = rw (stamped-snoc es e, map-append, join-append, append-nil)

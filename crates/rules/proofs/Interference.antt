@@ -13,7 +13,7 @@ use Rattle.rules.specs.Message.{Message, message, recording}
 use Rattle.rules.specs.Packages.{Package}
 use Rattle.rules.specs.Sheet.{Row}
 use Rattle.rules.specs.Valid.{Valid}
-use Rattle.rules.specs.Copy.{Entry, listedBits, grantedPackages, enter, released, count, stamp, stamped, rendered, packagesIn, releasedOf, roomFor, answered, copy, delivered}
+use Rattle.rules.specs.Copy.{Entry, listedBits, grantedPackages, withEntryOf, released, count, copyMessage, copyMessages, copyBytes, packagesIn, releasedOf, roomFor, answered, copy, delivered}
 use Rattle.rules.specs.Claims.{Plain}
 use Rattle.rules.proofs.Outcomes.{pass, halt, step, passed, stepped, good-inj}
 use Rattle.rules.proofs.Kept.{take-sets}
@@ -21,7 +21,7 @@ use Rattle.rules.proofs.RoundTrip.{all-written-read}
 use Rattle.rules.proofs.Released.{all-valid, entries, valid-stamped, stamped-injective}
 
 -- the copy's messages are valid
-valid-released : (rs : List Row) (tape : List ℕ) (ms : List Message) → Bytes tape → recording tape ≡ good ms → All Valid (stamped [] (released rs ms))
+valid-released : (rs : List Row) (tape : List ℕ) (ms : List Message) → Bytes tape → recording tape ≡ good ms → All Valid (copyMessages [] (released rs ms))
 unfolding recording
 valid-released rs tape ms b e =
     let (large, read) = passed _ _ _ _ e in
@@ -32,56 +32,56 @@ valid-released rs tape ms b e =
 
 module _ (orders tape : List ℕ) (es : List Entry) (list : releasedOf orders tape ≡ good es) where
   -- with room, the answer is the released list's, and its copy is stored
-  pub copy-is : (buffer : List ℕ) → length (rendered es) ≤ length buffer
-      → copy orders tape buffer ≡ (record { number = 0; place = 0; bytes = length (rendered es); messages = length es; packages = packagesIn es }, sets buffer 0 (rendered es))
+  pub copy-is : (buffer : List ℕ) → length (copyBytes es) ≤ length buffer
+      → copy orders tape buffer ≡ (record { number = 0; place = 0; bytes = length (copyBytes es); messages = length es; packages = packagesIn es }, sets buffer 0 (copyBytes es))
   unfolding copy answered roomFor
-  copy-is buffer l = ap (answered buffer) (step _ _ list (pass _ _ _ _ (le-ltb (length buffer) (length (rendered es)) l) refl))
+  copy-is buffer l = ap (answered buffer) (step _ _ list (pass _ _ _ _ (le-ltb (length buffer) (length (copyBytes es)) l) refl))
 
   -- without, the answer is ROOM with the bytes needed, and the buffer stays
-  pub copy-roomless : (buffer : List ℕ) → length buffer < length (rendered es)
-      → copy orders tape buffer ≡ (record { number = ROOM; place = length (rendered es); bytes = 0; messages = 0; packages = 0 }, buffer)
+  pub copy-roomless : (buffer : List ℕ) → length buffer < length (copyBytes es)
+      → copy orders tape buffer ≡ (record { number = ROOM; place = length (copyBytes es); bytes = 0; messages = 0; packages = 0 }, buffer)
   unfolding copy answered roomFor
-  copy-roomless buffer l = ap (answered buffer) (step _ _ list (halt _ _ _ _ (lt-ltb (length buffer) (length (rendered es)) l)))
+  copy-roomless buffer l = ap (answered buffer) (step _ _ list (halt _ _ _ _ (lt-ltb (length buffer) (length (copyBytes es)) l)))
 
-  pub delivered-is : (buffer : List ℕ) → length (rendered es) ≤ length buffer → delivered (copy orders tape buffer) ≡ rendered es
-  delivered-is buffer l = ap delivered (copy-is buffer l) ∙ take-sets buffer (rendered es) l
+  pub delivered-is : (buffer : List ℕ) → length (copyBytes es) ≤ length buffer → delivered (copy orders tape buffer) ≡ copyBytes es
+  delivered-is buffer l = ap delivered (copy-is buffer l) ∙ take-sets buffer (copyBytes es) l
 
-  pub valid-list : Bytes tape → All Valid (stamped [] es)
+  pub valid-list : Bytes tape → All Valid (copyMessages [] es)
   unfolding releasedOf
   valid-list b =
       let (rs, s, e) = stepped _ _ list in
       let (ms, passes, e) = stepped _ _ e in
-      subst (λ (l : List Entry). All Valid (stamped [] l)) (good-inj e) (valid-released rs tape ms b passes)
+      subst (λ (l : List Entry). All Valid (copyMessages [] l)) (good-inj e) (valid-released rs tape ms b passes)
 
 -- equal copies, with room for both: equal released lists
 pub same-list : (orders orders′ tape tape′ buffer buffer′ : List ℕ) → Bytes tape → Bytes tape′ → (es es′ : List Entry)
-    → releasedOf orders tape ≡ good es → releasedOf orders′ tape′ ≡ good es′ → length (rendered es) ≤ length buffer → length (rendered es′) ≤ length buffer′
+    → releasedOf orders tape ≡ good es → releasedOf orders′ tape′ ≡ good es′ → length (copyBytes es) ≤ length buffer → length (copyBytes es′) ≤ length buffer′
     → delivered (copy orders tape buffer) ≡ delivered (copy orders′ tape′ buffer′) → es ≡ es′
-unfolding rendered
+unfolding copyBytes
 same-list orders orders′ tape tape′ buffer buffer′ b b′ es es′ r r′ l l′ e =
-    let q : rendered es ≡ rendered es′ = sym (delivered-is orders tape es r buffer l) ∙ e ∙ delivered-is orders′ tape′ es′ r′ buffer′ l′ in
+    let q : copyBytes es ≡ copyBytes es′ = sym (delivered-is orders tape es r buffer l) ∙ e ∙ delivered-is orders′ tape′ es′ r′ buffer′ l′ in
     let a = all-written-read (valid-list orders tape es r b) 0 in
     let a′ = all-written-read (valid-list orders′ tape′ es′ r′ b′) 0 in
     stamped-injective es es′ (good-inj (sym a ∙ ap (items message 0 0) q ∙ a′))
 
 -- the copy is read as the released list's messages
-pub copy-read : (orders tape buffer : List ℕ) (es : List Entry) → Bytes tape → releasedOf orders tape ≡ good es → length (rendered es) ≤ length buffer
-    → items message 0 0 (delivered (copy orders tape buffer)) ≡ good (stamped [] es)
-unfolding rendered
+pub copy-read : (orders tape buffer : List ℕ) (es : List Entry) → Bytes tape → releasedOf orders tape ≡ good es → length (copyBytes es) ≤ length buffer
+    → items message 0 0 (delivered (copy orders tape buffer)) ≡ good (copyMessages [] es)
+unfolding copyBytes
 copy-read orders tape buffer es b r l =
     ap (items message 0 0) (delivered-is orders tape es r buffer l) ∙ all-written-read (valid-list orders tape es r b) 0
 
 -- each of those is plain: bits 3, 2 and 1 are all that is listed of the flags
-plain-stamp : (n : ℕ) (e : Entry) → e .flags % 2 ≡ 0 → e .flags < 16 → Plain (stamp n e)
-unfolding stamp
+plain-stamp : (n : ℕ) (e : Entry) → e .flags % 2 ≡ 0 → e .flags < 16 → Plain (copyMessage n e)
+unfolding copyMessage
 plain-stamp n e h l = record { options = refl; playback = let g : (64 + e .flags) / 64 ≡ 1 = omega arith in rw g; end = omega arith }
 
 record Even (e : Entry) : Type 0 where
   even : e .flags % 2 ≡ 0
   small : e .flags < 16
 
-entered-even : (m : Message) (ps : List Package) {es : List Entry} → All Even es → All Even (enter m ps es)
-unfolding enter
+entered-even : (m : Message) (ps : List Package) {es : List Entry} → All Even es → All Even (withEntryOf m ps es)
+unfolding withEntryOf
 entered-even m [] a = a
 entered-even m (p ∷ ps) a =
     let f : listedBits (m .flags) % 2 ≡ 0 = omega arith in
@@ -93,10 +93,10 @@ unfolding released
 released-even rows [] = all-nil
 released-even rows (m ∷ ms) = entered-even m (grantedPackages rows m (m .packages)) (released-even rows ms)
 
-stamped-plain : (seen : List ℕ) {es : List Entry} → All Even es → All Plain (stamped seen es)
-unfolding stamped
+stamped-plain : (seen : List ℕ) {es : List Entry} → All Even es → All Plain (copyMessages seen es)
+unfolding copyMessages
 stamped-plain seen all-nil = all-nil
 stamped-plain seen (all-cons {a = e} v a) = all-cons (plain-stamp (count (e .id) seen) e (v .even) (v .small)) (stamped-plain (e .id ∷ seen) a)
 
-pub copy-plain : (rows : List Row) (ms : List Message) → All Plain (stamped [] (released rows ms))
+pub copy-plain : (rows : List Row) (ms : List Message) → All Plain (copyMessages [] (released rows ms))
 copy-plain rows ms = stamped-plain [] (released-even rows ms)

@@ -9,7 +9,7 @@ use lib.ListN.{length, take, drop, set}
 use lib.Seq.{sets, sets-eq, length-sets, drop-set-lt, take-append-seam}
 use Rattle.rules.specs.Outcome.{Outcome, good, bad, _>>=_}
 use Rattle.rules.specs.Buffer.{Written, fitted, stored}
-use Rattle.rules.specs.Copy.{Entry, rendered, answered}
+use Rattle.rules.specs.Copy.{Entry, copyBytes, answered}
 use Rattle.rules.specs.Burst.{randomizedAnswer, openedAnswer}
 use Rattle.rules.specs.Claims.{Careful}
 use Rattle.rules.proofs.Outcomes.{pass, step}
@@ -33,7 +33,7 @@ careful-stored b (bad n p) = careful-none n b
 
 pub careful-answered : (b : List ℕ) (o : Outcome (List Entry)) → Careful (answered b o .0 .number) (answered b o .0 .bytes) b (answered b o .1)
 unfolding answered
-careful-answered b (good es) = careful-sets b (rendered es)
+careful-answered b (good es) = careful-sets b (copyBytes es)
 careful-answered b (bad n p) = careful-none n b
 
 -- what works in the buffer itself leaves it where it refuses

@@ -10,7 +10,7 @@ use lib.Seq.{drop-drop, getD-drop, sets, take-all}
 use Rattle.rules.specs.Outcome.{Outcome, good, bad, _∷>_}
 use Rattle.rules.specs.Bytes.{at}
 use Rattle.rules.specs.Items.{items}
-use Rattle.rules.specs.Options.{optionSize, optionFits, run}
+use Rattle.rules.specs.Options.{optionSize, optionFits, optionRunFrom}
 use Rattle.rules.proofs.Walk.{items-next, items-stop}
 use Rattle.rules.proofs.Run.{run-next}
 
@@ -70,7 +70,7 @@ module _ {A : Type 0} (read : ℕ → List ℕ → Outcome (A × ℕ)) where
     doing-bad done i = passing-bad 0 s done i i
 
 -- options, one after the other
-pub running : (p i : ℕ) (o : List ℕ) → 0 < at o i → optionFits (drop i o) ≡ true → run 0 p i (drop i o) ≡ run 0 p (i + optionSize (drop i o)) (drop (i + optionSize (drop i o)) o)
+pub running : (p i : ℕ) (o : List ℕ) → 0 < at o i → optionFits (drop i o) ≡ true → optionRunFrom 0 p i (drop i o) ≡ optionRunFrom 0 p (i + optionSize (drop i o)) (drop (i + optionSize (drop i o)) o)
 running p i o k f =
     let e : at (drop i o) 0 ≡ at o i = rw (getD-drop, add-zero) in
     run-next p i (drop i o) (omega arith) f ∙ rw drop-drop

@@ -6,9 +6,9 @@ use borrow.Author.Tests.{ltb-false, eqb-true, not-false}
 use lib.ListN.{length}
 use Rattle.rules.specs.Outcome.{good}
 use Rattle.rules.specs.Bytes.{part, oneIfAny}
-use Rattle.rules.specs.Options.{run}
+use Rattle.rules.specs.Options.{optionRunFrom}
 use Rattle.rules.specs.Packages.{cut}
-use Rattle.rules.specs.Message.{Head, front, checked, runLength, framed, parsed}
+use Rattle.rules.specs.Message.{Head, payloadStart, checksOneToSix, optionRunLength, checksEightToTen, checksOneToTen}
 use Rattle.rules.proofs.Outcomes.{passed, passed-last, came-after, stepped, neither}
 
 -- what a header that passes checks 1 to 6 says
@@ -16,13 +16,13 @@ pub record Sound (s : List ℕ) (h : Head) : Type 0 where
   pub long : 24 ≤ length s
   pub version : h .version ≡ 1
   pub kind : h .kind ≡ 0
-  pub least : front h ≤ h .size
+  pub least : payloadStart h ≤ h .size
   pub whole : h .size % 4 ≡ 0
   pub most : h .size ≤ length s
   pub nanos : h .nanos ≤ 999999999
 
-pub sound : (p : ℕ) (s : List ℕ) (h : Head) → checked p s h ≡ good tt → Sound s h
-unfolding checked
+pub sound : (p : ℕ) (s : List ℕ) (h : Head) → checksOneToSix p s h ≡ good tt → Sound s h
+unfolding checksOneToSix
 sound p s h e =
     let (a, e) = passed _ _ _ _ e in
     let (b, e) = passed _ _ _ _ e in
@@ -44,13 +44,13 @@ sound p s h e =
 -- what a message that passes says
 pub record Passed (p : ℕ) (s : List ℕ) (h : Head) (r : ℕ × List (List ℕ)) : Type 0 where
   pub header : Sound s h
-  pub options : run zero (p + 24) zero (part 24 (front h) s) ≡ good (r .0)
+  pub options : optionRunFrom zero (p + 24) zero (part 24 (payloadStart h) s) ≡ good (r .0)
   pub fragment : h .flags / 16 % 4 ≡ 0
-  pub standard : h .flags / 128 % 2 ≡ oneIfAny (part (front h) (h .size) s)
-  pub packages : cut (p + front h) (part (front h) (h .size) s) ≡ good (r .1)
+  pub standard : h .flags / 128 % 2 ≡ oneIfAny (part (payloadStart h) (h .size) s)
+  pub packages : cut (p + payloadStart h) (part (payloadStart h) (h .size) s) ≡ good (r .1)
 
-pub passes : (p : ℕ) (s : List ℕ) (h : Head) (r : ℕ × List (List ℕ)) → parsed p s h ≡ good r → Passed p s h r
-unfolding parsed runLength framed
+pub passes : (p : ℕ) (s : List ℕ) (h : Head) (r : ℕ × List (List ℕ)) → checksOneToTen p s h ≡ good r → Passed p s h r
+unfolding checksOneToTen optionRunLength checksEightToTen
 passes p s h r e =
     let (n, o, e) = stepped _ _ e in
     let (a, b) = came-after _ _ o in

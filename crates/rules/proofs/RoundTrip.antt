@@ -11,7 +11,7 @@ use Rattle.rules.specs.Items.{items, All, all-nil, all-cons}
 use Rattle.rules.specs.Packages.{Package, pieceOf}
 use Rattle.rules.specs.Message.{head, Message, recordOf, message}
 use Rattle.rules.specs.Writer.{write}
-use Rattle.rules.specs.Clean.{clean}
+use Rattle.rules.specs.Clean.{cleanForm}
 use Rattle.rules.specs.Valid.{ValidPackage, Valid}
 use Rattle.rules.proofs.Outcomes.{step, stepped, good-inj}
 use Rattle.rules.proofs.Numbers.{bytes-cons, bytes-nil, bytes-put16, bytes-put32, bytes-zeros, bytes-append}
@@ -57,8 +57,8 @@ write-injective m m′ v v′ e =
     ap (λ (r : Message × ℕ). r .0) (good-inj q)
 
 -- a message that is read and written again is its clean form
-pub read-written : (s : List ℕ) → Bytes s → (m : Message) (n : ℕ) → message 0 s ≡ good (m, n) → clean s ≡ good (write m)
-unfolding message clean
+pub read-written : (s : List ℕ) → Bytes s → (m : Message) (n : ℕ) → message 0 s ≡ good (m, n) → cleanForm s ≡ good (write m)
+unfolding message cleanForm
 read-written s b m n e =
     let (r, q, z) = stepped _ _ e in
     let y : recordOf s (head s) r ≡ m = ap (λ (k : Message × ℕ). k .0) (good-inj z) in
@@ -73,22 +73,22 @@ read-valid p s b l m n e =
     subst Valid y (valid p s r b (passes p s (head s) r q) l)
 
 -- what is cleaned is written from the record
-cleaned-written : (s : List ℕ) {c : List ℕ} → Bytes s → length s ≤ 65536 → clean s ≡ good c → (m : Message) × Valid m × (write m ≡ c)
-unfolding clean
+cleaned-written : (s : List ℕ) {c : List ℕ} → Bytes s → length s ≤ 65536 → cleanForm s ≡ good c → (m : Message) × Valid m × (write m ≡ c)
+unfolding cleanForm
 cleaned-written s b l e =
     let (r, q, z) = stepped _ _ e in
     let w = passes 0 s (head s) r q in
     (recordOf s (head s) r, valid 0 s r b w l, write-read 0 s r b w ∙ good-inj z)
 
 -- cleaning twice is cleaning once
-pub clean-twice : (s c t : List ℕ) → Bytes s → length s ≤ 65536 → Bytes t → clean s ≡ good c → clean (c ++ t) ≡ good c
+pub clean-twice : (s c t : List ℕ) → Bytes s → length s ≤ 65536 → Bytes t → cleanForm s ≡ good c → cleanForm (c ++ t) ≡ good c
 clean-twice s c t b l bt e =
     let (m, v, q) = cleaned-written s b l e in
     rw (← q) (read-written (write m ++ t) (bytes-append (write m) t (bytes-write m v) bt) m (length (write m)) (written-read m v 0 t))
 
 -- two messages have equal clean forms exactly if their records are equal
 pub clean-exactly : (s s′ : List ℕ) → Bytes s → Bytes s′ → length s ≤ 65536 → length s′ ≤ 65536 → (m m′ : Message) (n n′ : ℕ)
-    → message 0 s ≡ good (m, n) → message 0 s′ ≡ good (m′, n′) → (clean s ≡ clean s′) ↔ (m ≡ m′)
+    → message 0 s ≡ good (m, n) → message 0 s′ ≡ good (m′, n′) → (cleanForm s ≡ cleanForm s′) ↔ (m ≡ m′)
 clean-exactly s s′ b b′ l l′ m m′ n n′ e e′ =
     let c = read-written s b m n e in
     let c′ = read-written s′ b′ m′ n′ e′ in (

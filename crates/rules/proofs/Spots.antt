@@ -5,12 +5,12 @@ use mathlib.Core.List.{List}
 use lib.ListN.{drop, length-map}
 use Rattle.rules.specs.Outcome.{good}
 use Rattle.rules.specs.Packages.{packageOf}
-use Rattle.rules.specs.Message.{head, parsed, recordOf, message}
+use Rattle.rules.specs.Message.{head, checksOneToTen, recordOf, message}
 use Rattle.rules.specs.Reading.{MessageSpot, messageSpot, messageAt}
 use Rattle.rules.specs.Claims.{OfRecord}
 use Rattle.rules.proofs.Outcomes.{step, passed, stepped, good-inj}
 
-of-parsed : (s : List ℕ) (p : ℕ) (r : ℕ × List (List ℕ)) → parsed p (drop p s) (head (drop p s)) ≡ good r → OfRecord s p (messageSpot p (head (drop p s)) r)
+of-parsed : (s : List ℕ) (p : ℕ) (r : ℕ × List (List ℕ)) → checksOneToTen p (drop p s) (head (drop p s)) ≡ good r → OfRecord s p (messageSpot p (head (drop p s)) r)
 unfolding messageSpot recordOf message
 of-parsed s p r e = record {
   held = recordOf (drop p s) (head (drop p s)) r;

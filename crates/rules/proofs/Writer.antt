@@ -7,10 +7,10 @@ use borrow.Author.Tests.{ltb-false, le-ltb}
 use lib.ListN.{length}
 use Rattle.rules.specs.Outcome.{good}
 use Rattle.rules.specs.Bytes.{Bytes, pad, part, join}
-use Rattle.rules.specs.Options.{run}
+use Rattle.rules.specs.Options.{optionRunFrom}
 use Rattle.rules.specs.Packages.{cut, packageOf, pieceOf, Fills}
-use Rattle.rules.specs.Message.{head, front, Message, recordOf}
-use Rattle.rules.specs.Clean.{cleaned}
+use Rattle.rules.specs.Message.{head, payloadStart, Message, recordOf}
+use Rattle.rules.specs.Clean.{cleanBytes}
 use Rattle.rules.specs.Valid.{Valid, DraftFits}
 use Rattle.rules.specs.Writer.{Draft, drafted, accepted, written}
 use Rattle.rules.proofs.Outcomes.{pass, step, passed, stepped, good-inj}
@@ -25,7 +25,7 @@ pub record Accepted (d : Draft) (m : Message) : Type 0 where
   pub large : 24 + pad (length (d .options)) + length (d .packages) ≤ 65536
   pub nanos : d .nanos ≤ 999999999
   pub short : length (d .options) ≤ 60
-  pub whole : run 0 0 0 (d .options) ≡ good (length (d .options))
+  pub whole : optionRunFrom 0 0 0 (d .options) ≡ good (length (d .options))
   pub pieces : List (List ℕ)
   pub filled : cut 0 (d .packages) ≡ good pieces
   pub is : drafted d pieces ≡ m
@@ -49,7 +49,7 @@ accepts d e =
       is = good-inj e;
     }
   where
-    all : (n : ℕ) → run 0 0 0 (d .options) ≡ good n → length (d .options) ≤ n → run 0 0 0 (d .options) ≡ good (length (d .options))
+    all : (n : ℕ) → optionRunFrom 0 0 0 (d .options) ≡ good n → length (d .options) ≤ n → optionRunFrom 0 0 0 (d .options) ≡ good (length (d .options))
     all n r l =
         let w = run-ends 0 0 0 (d .options) (omega arith) r in
         let q : n ≡ length (d .options) = omega (arith, w .most) in
@@ -82,15 +82,15 @@ parts s r = record {
   seconds = head s .seconds;
   nanos = head s .nanos;
   options = part 24 (24 + r .0) s;
-  packages = part (front (head s)) (head s .size) s;
+  packages = part (payloadStart (head s)) (head s .size) s;
 }
 
-pub parts-written : (p : ℕ) (s : List ℕ) (r : ℕ × List (List ℕ)) → Bytes s → length s ≤ 65536 → Passed p s (head s) r → written (parts s r) ≡ good (cleaned s r)
+pub parts-written : (p : ℕ) (s : List ℕ) (r : ℕ × List (List ℕ)) → Bytes s → length s ≤ 65536 → Passed p s (head s) r → written (parts s r) ≡ good (cleanBytes s r)
 unfolding written accepted drafted recordOf
 parts-written p s r b l w =
     let v : Valid (recordOf s (head s) r) = valid p s r b w l in
     let o : List ℕ = part 24 (24 + r .0) s in
-    let q : List ℕ = part (front (head s)) (head s .size) s in
+    let q : List ℕ = part (payloadStart (head s)) (head s .size) s in
     let f : Fills (r .1) q = fills p s r b w in
     let same : length (join (map pieceOf (map packageOf (r .1)))) ≡ length q = same-lengths f (payload-bytes p s r b w) in
     step _ _

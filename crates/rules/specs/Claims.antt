@@ -10,14 +10,14 @@ use Rattle.rules.specs.Outcome.{good, bad, PACKAGE}
 use Rattle.rules.specs.Bytes.{Bytes, part, oneIfAny}
 use Rattle.rules.specs.Items.{items, All}
 use Rattle.rules.specs.Packages.{Package, cut, packageOf, Fills}
-use Rattle.rules.specs.Message.{headerBytes, mostBytes, Head, head, front, payload, recordBits, fragmentBits, standardBit, runLength, Message, message}
+use Rattle.rules.specs.Message.{headerBytes, mostBytes, Head, head, payloadStart, payload, recordBits, fragmentBits, standardBit, optionRunLength, Message, message}
 use Rattle.rules.specs.Reading.{optionRun, MessageSpot, messageAt}
 use Rattle.rules.specs.Walk.{PackageSpot, packageAt, dataAt, nextAt, Walks}
 use Rattle.rules.specs.Writer.{write, Draft, accepted, written, writer}
-use Rattle.rules.specs.Clean.{clean, cleaner}
+use Rattle.rules.specs.Clean.{cleanForm, cleaner}
 use Rattle.rules.specs.Valid.{Valid, DraftFits}
 use Rattle.rules.specs.Sheet.{Row}
-use Rattle.rules.specs.Copy.{granted, Entry, idOf, released, count, stamp, stamped, rendered, packagesIn, releasedOf, copy, delivered}
+use Rattle.rules.specs.Copy.{granted, Entry, idOf, released, count, copyMessage, copyMessages, copyBytes, packagesIn, releasedOf, copy, delivered}
 use Rattle.rules.specs.Burst.{_xor_, bit, sequenceByte, sequenceBytes, randomized, randomizer, opening, opener}
 use Rattle.rules.specs.Table.{Table}
 
@@ -51,7 +51,7 @@ ReadValid = (p : ℕ) (s : List ℕ) → Bytes s → length s ≤ mostBytes → 
 
 -- Read and written again gives the clean form.
 abbrev pub ReadWritten : Type 0
-ReadWritten = (s : List ℕ) → Bytes s → (m : Message) (n : ℕ) → message 0 s ≡ good (m, n) → clean s ≡ good (write m)
+ReadWritten = (s : List ℕ) → Bytes s → (m : Message) (n : ℕ) → message 0 s ≡ good (m, n) → cleanForm s ≡ good (write m)
 
 -- The parts of a message that was read, handed to the writer as they stand in its bytes, give its clean form.
 abbrev pub partsOf : List ℕ → Head → Draft
@@ -66,7 +66,7 @@ partsOf s h = record {
 }
 
 abbrev pub PartsWritten : Type 0
-PartsWritten = (s : List ℕ) → Bytes s → length s ≤ mostBytes → (m : Message) (n : ℕ) → message 0 s ≡ good (m, n) → written (partsOf s (head s)) ≡ clean s
+PartsWritten = (s : List ℕ) → Bytes s → length s ≤ mostBytes → (m : Message) (n : ℕ) → message 0 s ≡ good (m, n) → written (partsOf s (head s)) ≡ cleanForm s
 
 -- With room, writer and cleaner write: the buffer's first so many bytes are what was written.
 abbrev pub WriterWrites : Type 0
@@ -74,17 +74,17 @@ WriterWrites = (d : Draft) (buffer c : List ℕ) → written d ≡ good c → le
     → (writer d buffer .0 ≡ record { number = 0; place = 0; bytes = length c }) × (take (length c) (writer d buffer .1) ≡ c)
 
 abbrev pub CleanerWrites : Type 0
-CleanerWrites = (s buffer c : List ℕ) → length s ≤ mostBytes → clean s ≡ good c → length c ≤ length buffer
+CleanerWrites = (s buffer c : List ℕ) → length s ≤ mostBytes → cleanForm s ≡ good c → length c ≤ length buffer
     → (cleaner s buffer .0 ≡ record { number = 0; place = 0; bytes = length c }) × (take (length c) (cleaner s buffer .1) ≡ c)
 
 -- Cleaning twice changes nothing more, whatever follows the message.
 abbrev pub CleanTwice : Type 0
-CleanTwice = (s c behind : List ℕ) → Bytes s → length s ≤ mostBytes → Bytes behind → clean s ≡ good c → clean (c ++ behind) ≡ good c
+CleanTwice = (s c behind : List ℕ) → Bytes s → length s ≤ mostBytes → Bytes behind → cleanForm s ≡ good c → cleanForm (c ++ behind) ≡ good c
 
 -- Two messages have equal clean forms exactly if their records are equal.
 abbrev pub CleanExactly : Type 0
 CleanExactly = (s t : List ℕ) → Bytes s → Bytes t → length s ≤ mostBytes → length t ≤ mostBytes → (m l : Message) (n k : ℕ)
-    → message 0 s ≡ good (m, n) → message 0 t ≡ good (l, k) → (clean s ≡ clean t) ↔ (m ≡ l)
+    → message 0 s ≡ good (m, n) → message 0 t ≡ good (l, k) → (cleanForm s ≡ cleanForm t) ↔ (m ≡ l)
 
 -- What is told of a message in a recording is told of its record.
 pub record OfRecord (s : List ℕ) (p : ℕ) (k : MessageSpot) : Type 0 where
@@ -97,7 +97,7 @@ pub record OfRecord (s : List ℕ) (p : ℕ) (k : MessageSpot) : Type 0 where
   pub nanos : k .head .nanos ≡ held .nanos
   pub options : part headerBytes (headerBytes + k .run) (drop p s) ≡ held .options
   pub packages : k .packages ≡ length (held .packages)
-  pub payload : k .payload ≡ p + front (k .head)
+  pub payload : k .payload ≡ p + payloadStart (k .head)
   pub next : k .next ≡ p + k .head .size
 
 abbrev pub SpotOfRecord : Type 0
@@ -106,7 +106,7 @@ SpotOfRecord = (s : List ℕ) (p : ℕ) (k : MessageSpot) → messageAt s p ≡ 
 -- A payload is refused as PACKAGE exactly if no cut into packages fills it. The message at the start of s has passed checks 1 to 9.
 pub record PassesToNine (p : ℕ) (s : List ℕ) : Type 0 where
   pub run : ℕ
-  pub options : runLength p s (head s) ≡ good run
+  pub options : optionRunLength p s (head s) ≡ good run
   pub whole : fragmentBits (head s .flags) ≡ 0
   pub standard : standardBit (head s .flags) ≡ oneIfAny (payload s (head s))
 
@@ -178,18 +178,18 @@ SameCopies = (sheet sheet′ recording recording′ buffer : List ℕ) → relea
 -- Released lists that differ, and room for both, give copies that differ.
 abbrev pub DifferentCopies : Type 0
 DifferentCopies = (sheet sheet′ recording recording′ buffer buffer′ : List ℕ) → Bytes recording → Bytes recording′ → (es es′ : List Entry)
-    → releasedOf sheet recording ≡ good es → releasedOf sheet′ recording′ ≡ good es′ → length (rendered es) ≤ length buffer → length (rendered es′) ≤ length buffer′
+    → releasedOf sheet recording ≡ good es → releasedOf sheet′ recording′ ≡ good es′ → length (copyBytes es) ≤ length buffer → length (copyBytes es′) ≤ length buffer′
     → (es ≡ es′ → ⊥) → delivered (copy sheet recording buffer) ≡ delivered (copy sheet′ recording′ buffer′) → ⊥
 
 -- With room, the copy is the released list's, and its counts are the released list's lengths.
 abbrev pub CountsReleased : Type 0
-CountsReleased = (sheet recording buffer : List ℕ) (es : List Entry) → releasedOf sheet recording ≡ good es → length (rendered es) ≤ length buffer
-    → (copy sheet recording buffer .0 ≡ record { number = 0; place = 0; bytes = length (rendered es); messages = length es; packages = packagesIn es })
-    × (delivered (copy sheet recording buffer) ≡ rendered es)
+CountsReleased = (sheet recording buffer : List ℕ) (es : List Entry) → releasedOf sheet recording ≡ good es → length (copyBytes es) ≤ length buffer
+    → (copy sheet recording buffer .0 ≡ record { number = 0; place = 0; bytes = length (copyBytes es); messages = length es; packages = packagesIn es })
+    × (delivered (copy sheet recording buffer) ≡ copyBytes es)
 
 -- The sequence number of an entry's message is how many of the entries before it have its message id.
 abbrev pub SequenceCounted : Type 0
-SequenceCounted = (before : List Entry) (e : Entry) → stamped [] (before ++ (e ∷ [])) ≡ stamped [] before ++ (stamp (count (e .id) (map idOf before)) e ∷ [])
+SequenceCounted = (before : List Entry) (e : Entry) → copyMessages [] (before ++ (e ∷ [])) ≡ copyMessages [] before ++ (copyMessage (count (e .id) (map idOf before)) e ∷ [])
 
 -- The released list goes message by message: what a message releases depends on no other.
 abbrev pub ReleasedEach : Type 0
@@ -197,8 +197,8 @@ ReleasedEach = (rows : List Row) (ms ns : List Message) → released rows (ms ++
 
 -- The copy is its messages, one behind the other, and is read as such.
 abbrev pub CopyRead : Type 0
-CopyRead = (sheet recording buffer : List ℕ) (es : List Entry) → Bytes recording → releasedOf sheet recording ≡ good es → length (rendered es) ≤ length buffer
-    → items message 0 0 (delivered (copy sheet recording buffer)) ≡ good (stamped [] es)
+CopyRead = (sheet recording buffer : List ℕ) (es : List Entry) → Bytes recording → releasedOf sheet recording ≡ good es → length (copyBytes es) ≤ length buffer
+    → items message 0 0 (delivered (copy sheet recording buffer)) ≡ good (copyMessages [] es)
 
 -- Each of them has no options, playback set, and end of data not set.
 pub record Plain (m : Message) : Type 0 where
@@ -207,7 +207,7 @@ pub record Plain (m : Message) : Type 0 where
   pub end : m .flags % 2 ≡ 0
 
 abbrev pub CopyPlain : Type 0
-CopyPlain = (rows : List Row) (ms : List Message) → All Plain (stamped [] (released rows ms))
+CopyPlain = (rows : List Row) (ms : List Message) → All Plain (copyMessages [] (released rows ms))
 
 -- ---- What a promise allows: where `told` tells answers apart, any two answers that a promise `told r ≡ d` allows are identical.
 

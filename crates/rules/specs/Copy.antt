@@ -38,14 +38,14 @@ grantedPackages rs m [] = []
 grantedPackages rs m (p ∷ ps) = elim (granted rs m p) [ true ↦ p ∷ grantedPackages rs m ps | false ↦ grantedPackages rs m ps ]
 
 -- the entries es of the messages behind m, with one for m in front if it has a granted package
-unfoldable pub enter : Message → List Package → List Entry → List Entry
-enter m [] es = es
-enter m (p ∷ ps) es = record { id = m .id; seconds = m .seconds; nanos = m .nanos; flags = listedBits (m .flags); packages = p ∷ ps } ∷ es
+unfoldable pub withEntryOf : Message → List Package → List Entry → List Entry
+withEntryOf m [] es = es
+withEntryOf m (p ∷ ps) es = record { id = m .id; seconds = m .seconds; nanos = m .nanos; flags = listedBits (m .flags); packages = p ∷ ps } ∷ es
 
 -- the released list, in recording order
 unfoldable pub released : List Row → List Message → List Entry
 released rs [] = []
-released rs (m ∷ ms) = enter m (grantedPackages rs m (m .packages)) (released rs ms)
+released rs (m ∷ ms) = withEntryOf m (grantedPackages rs m (m .packages)) (released rs ms)
 
 -- how often x stands in l
 unfoldable pub count : ℕ → List ℕ → ℕ
@@ -57,17 +57,17 @@ abbrev pub playback : ℕ
 playback = 64
 
 -- the message of the copy for an entry, with sequence number n: no options, playback set
-unfoldable pub stamp : ℕ → Entry → Message
-stamp n e = record { flags = playback + e .flags; id = e .id; sequence = n; seconds = e .seconds; nanos = e .nanos; options = []; packages = e .packages }
+unfoldable pub copyMessage : ℕ → Entry → Message
+copyMessage n e = record { flags = playback + e .flags; id = e .id; sequence = n; seconds = e .seconds; nanos = e .nanos; options = []; packages = e .packages }
 
 -- the copy's messages. `seen` holds the message ids of the earlier entries: a sequence number is how many of them are this one
-unfoldable pub stamped : List ℕ → List Entry → List Message
-stamped seen [] = []
-stamped seen (e ∷ es) = stamp (count (e .id) seen) e ∷ stamped (e .id ∷ seen) es
+unfoldable pub copyMessages : List ℕ → List Entry → List Message
+copyMessages seen [] = []
+copyMessages seen (e ∷ es) = copyMessage (count (e .id) seen) e ∷ copyMessages (e .id ∷ seen) es
 
 -- the bytes of the copy
-unfoldable pub rendered : List Entry → List ℕ
-rendered es = join (map write (stamped [] es))
+unfoldable pub copyBytes : List Entry → List ℕ
+copyBytes es = join (map write (copyMessages [] es))
 
 -- how many packages the entries have
 unfoldable pub packagesIn : List Entry → ℕ
@@ -92,14 +92,14 @@ releasedOf sheetBytes recordingBytes = do
 -- the released list, if the buffer has room for its copy
 unfoldable pub roomFor : List ℕ → List Entry → Outcome (List Entry)
 roomFor buffer es = do
-  refuse (ltb (length buffer) (length (rendered es))) ROOM (length (rendered es))
+  refuse (ltb (length buffer) (length (copyBytes es))) ROOM (length (copyBytes es))
   good es
 
 -- the answer, and the buffer after it
 unfoldable pub answered : List ℕ → Outcome (List Entry) → Answer × List ℕ
 answered buffer (bad n p) = (record { number = n; place = p; bytes = 0; messages = 0; packages = 0 }, buffer)
 answered buffer (good es) =
-    (record { number = 0; place = 0; bytes = length (rendered es); messages = length es; packages = packagesIn es }, sets buffer 0 (rendered es))
+    (record { number = 0; place = 0; bytes = length (copyBytes es); messages = length es; packages = packagesIn es }, sets buffer 0 (copyBytes es))
 
 -- the copy of a recording under the bytes of a sheet
 unfoldable pub copy : List ℕ → List ℕ → List ℕ → Answer × List ℕ

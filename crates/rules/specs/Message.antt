@@ -7,7 +7,7 @@ use lib.ListN.{length}
 use Rattle.rules.specs.Outcome.{Outcome, good, refuse, _>>_, _>>=_, SHORT, VERSION, TYPE, LENGTH, CUT, TIME, FRAGMENT, STANDARD, LARGE}
 use Rattle.rules.specs.Bytes.{at, word, part, oneIfAny}
 use Rattle.rules.specs.Items.{items}
-use Rattle.rules.specs.Options.{run}
+use Rattle.rules.specs.Options.{optionRunFrom}
 use Rattle.rules.specs.Packages.{Package, cut, packageOf}
 
 -- the bytes of a header, the most nanoseconds of a time, and the most bytes of an input
@@ -61,41 +61,41 @@ abbrev pub recordBits : ℕ → ℕ
 recordBits flags = flags / 64 % 2 * 64 + flags % 16
 
 -- where the payload begins: behind header and option bytes
-abbrev pub front : Head → ℕ
-front h = headerBytes + 4 * h .words
+abbrev pub payloadStart : Head → ℕ
+payloadStart h = headerBytes + 4 * h .words
 
 -- the payload of the message with header h at the start of s
 abbrev pub payload : List ℕ → Head → List ℕ
-payload s h = part (front h) (h .size) s
+payload s h = part (payloadStart h) (h .size) s
 
 -- checks 1 to 6 of the message with header h at the start of s, which stands at place p
-unfoldable pub checked : ℕ → List ℕ → Head → Outcome (Unit {0})
-checked p s h = do
+unfoldable pub checksOneToSix : ℕ → List ℕ → Head → Outcome (Unit {0})
+checksOneToSix p s h = do
   refuse (ltb (length s) headerBytes) SHORT p
   refuse (not (eqb (h .version) 1)) VERSION p
   refuse (not (eqb (h .kind) 0)) TYPE p
-  refuse (ltb (h .size) (front h) || not (eqb (h .size % 4) 0)) LENGTH p
+  refuse (ltb (h .size) (payloadStart h) || not (eqb (h .size % 4) 0)) LENGTH p
   refuse (ltb (length s) (h .size)) CUT p
   refuse (ltb mostNanos (h .nanos)) TIME p
 
 -- checks 1 to 7: how long its option run is
-unfoldable pub runLength : ℕ → List ℕ → Head → Outcome ℕ
-runLength p s h = do
-  checked p s h
-  run zero (p + headerBytes) zero (part headerBytes (front h) s)
+unfoldable pub optionRunLength : ℕ → List ℕ → Head → Outcome ℕ
+optionRunLength p s h = do
+  checksOneToSix p s h
+  optionRunFrom zero (p + headerBytes) zero (part headerBytes (payloadStart h) s)
 
 -- checks 8 to 10: the pieces that its packages take
-unfoldable pub framed : ℕ → List ℕ → Head → Outcome (List (List ℕ))
-framed p s h = do
+unfoldable pub checksEightToTen : ℕ → List ℕ → Head → Outcome (List (List ℕ))
+checksEightToTen p s h = do
   refuse (not (eqb (fragmentBits (h .flags)) 0)) FRAGMENT p
   refuse (not (eqb (standardBit (h .flags)) (oneIfAny (payload s h)))) STANDARD p
-  cut (p + front h) (payload s h)
+  cut (p + payloadStart h) (payload s h)
 
 -- checks 1 to 10: the length of its option run, and the pieces
-unfoldable pub parsed : ℕ → List ℕ → Head → Outcome (ℕ × List (List ℕ))
-parsed p s h = do
-  n ← runLength p s h
-  cs ← framed p s h
+unfoldable pub checksOneToTen : ℕ → List ℕ → Head → Outcome (ℕ × List (List ℕ))
+checksOneToTen p s h = do
+  n ← optionRunLength p s h
+  cs ← checksEightToTen p s h
   good (n, cs)
 
 -- a message record; flags holds bits 6, 3, 2, 1 and 0, each at its place
@@ -123,7 +123,7 @@ recordOf s h r = record {
 -- the message at the start of s, which stands at place p; and how long it is
 unfoldable pub message : ℕ → List ℕ → Outcome (Message × ℕ)
 message p s = do
-  r ← parsed p s (head s)
+  r ← checksOneToTen p s (head s)
   good (recordOf s (head s) r, head s .size)
 
 -- the messages of a recording

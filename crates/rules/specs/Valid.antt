@@ -6,7 +6,7 @@ use lib.ListN.{length}
 use Rattle.rules.specs.Outcome.{good}
 use Rattle.rules.specs.Bytes.{Bytes, pad, join}
 use Rattle.rules.specs.Items.{All}
-use Rattle.rules.specs.Options.{mostOptionBytes, run}
+use Rattle.rules.specs.Options.{mostOptionBytes, optionRunFrom}
 use Rattle.rules.specs.Packages.{packageHeader, Package, pieceOf}
 use Rattle.rules.specs.Writer.{Draft}
 use Rattle.rules.specs.Message.{headerBytes, mostNanos, mostBytes, recordBits, Message}
@@ -27,7 +27,7 @@ pub record Valid (m : Message) : Type 0 where
   pub seconds : m .seconds < 2 ^ 32
   pub nanos : m .nanos ≤ mostNanos
   pub options : Bytes (m .options)
-  pub run : run zero zero zero (m .options) ≡ good (length (m .options))
+  pub run : optionRunFrom zero zero zero (m .options) ≡ good (length (m .options))
   pub short : length (m .options) ≤ mostOptionBytes
   pub packages : All ValidPackage (m .packages)
   pub size : headerBytes + pad (length (m .options)) + length (join (map pieceOf (m .packages))) ≤ mostBytes

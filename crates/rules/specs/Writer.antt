@@ -5,7 +5,7 @@ use lib.Dec.{ltb}
 use lib.ListN.{length}
 use Rattle.rules.specs.Outcome.{Outcome, good, refuse, _>>_, _>>=_, LARGE, TIME, OPTION}
 use Rattle.rules.specs.Bytes.{put32, pad, padded, join, oneIfAny}
-use Rattle.rules.specs.Options.{mostOptionBytes, run}
+use Rattle.rules.specs.Options.{mostOptionBytes, optionRunFrom}
 use Rattle.rules.specs.Packages.{cut, packageOf, pieceOf}
 use Rattle.rules.specs.Message.{headerBytes, mostNanos, mostBytes, recordBits, Message}
 use Rattle.rules.specs.Buffer.{Written, stored, fitted}
@@ -47,7 +47,7 @@ accepted d = do
   refuse (ltb mostBytes (headerBytes + pad (length (d .options)) + length (d .packages))) LARGE mostBytes
   refuse (ltb mostNanos (d .nanos)) TIME 0
   refuse (ltb mostOptionBytes (length (d .options))) OPTION mostOptionBytes
-  n ← run zero zero zero (d .options)
+  n ← optionRunFrom zero zero zero (d .options)
   refuse (ltb n (length (d .options))) OPTION n
   cs ← cut zero (d .packages)
   good (drafted d cs)
