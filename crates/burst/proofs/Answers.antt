@@ -6,7 +6,7 @@ use mathlib.Core.List.{List, _++_}
 use borrow.Author.Tests.{le-ltb, lt-ltb, leb-true}
 use lib.ListN.{length, take, drop}
 use Rattle.rules.specs.Outcome.{LARGE, MARKER, BLOCKS}
-use Rattle.rules.specs.Burst.{randomized, marked, codeblocks, blocksFit, randomizing, opening, Randomized, Opened, randomizedAnswer, openedAnswer, randomizer, opener}
+use Rattle.rules.specs.Burst.{randomized, marked, codeblocks, blocksFit, opening, Randomized, Opened, randomizedAnswer, openedAnswer, randomizer, opener}
 use Rattle.rules.proofs.Outcomes.{pass, halt, both}
 
 abbrev told : ℕ → ℕ → List ℕ → Randomized × List ℕ
@@ -17,11 +17,11 @@ opened n p b s = (record { number = n; place = p; blocks = b }, s)
 
 module _ (s : List ℕ) where
   pub randomizer-large : 65536 < length s → told LARGE 65536 s ≡ randomizer s
-  unfolding randomizer randomizing randomizedAnswer
+  unfolding randomizer randomizedAnswer
   randomizer-large h = sym (ap (randomizedAnswer s) (halt _ _ _ _ (lt-ltb 65536 (length s) h)))
 
   pub randomizer-done : (t : List ℕ) → length s ≤ 65536 → t ≡ randomized 0 s → told 0 0 t ≡ randomizer s
-  unfolding randomizer randomizing randomizedAnswer
+  unfolding randomizer randomizedAnswer
   randomizer-done t h e = rw e (sym (ap (randomizedAnswer s) (pass _ _ _ _ (le-ltb 65536 (length s) h) refl)))
 
   pub opener-large : 65536 < length s → opened LARGE 65536 0 s ≡ opener s

@@ -345,7 +345,7 @@ fn blocks_fit(n: usize) -> bool
     (n - 8) % 768 == 0
 }
 
-fn no(why: Why, place: usize) -> Opened
+fn refuse_with(why: Why, place: usize) -> Opened
     ensures { λ r. ⌜ r ≡ Opened.Refused (record { why = why; place = place }) ⌝ }
 {
     Opened::Refused(Refusal { why, place })
@@ -359,13 +359,13 @@ pub fn open_burst(buf: &mut [u8]) -> Opened
     let begun = is_marked(buf);
     let whole = blocks_fit(n);
     if 65536 < n {
-        return no(Why::Large, 65536);
+        return refuse_with(Why::Large, 65536);
     }
     if !begun {
-        return no(Why::Marker, 0);
+        return refuse_with(Why::Marker, 0);
     }
     if !whole {
-        return no(Why::Blocks, n);
+        return refuse_with(Why::Blocks, n);
     }
     randomize_all(&mut buf[8..]);
     Opened::Done {

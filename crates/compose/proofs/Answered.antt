@@ -10,7 +10,7 @@ use Rattle.rules.specs.Packages.{cut}
 use Rattle.rules.specs.Writer.{Draft}
 use Rattle.rules.specs.Buffer.{Written, stored, fitted}
 use Rattle.rules.proofs.Outcomes.{pass, halt, step, good≢bad, good-inj}
-use Rattle.compose.specs.Payload.{messageOf, sized, finished, Fit}
+use Rattle.compose.specs.Payload.{messageOf, sizeOfOutcome, finished, Fit}
 use Rattle.compose.proofs.Whole.{message-length}
 
 -- an answer and its buffer
@@ -18,15 +18,15 @@ abbrev pub answer : ℕ → ℕ → ℕ → List ℕ → Written × List ℕ
 answer n p k b = (record { number = n; place = p; bytes = k }, b)
 
 -- what an outcome of so many bytes was
-pub measured : {n : ℕ} (o : Outcome (List ℕ)) → good n ≡ sized o → (s : List ℕ) × (o ≡ good s) × (length s ≡ n)
-unfolding sized
+pub measured : {n : ℕ} (o : Outcome (List ℕ)) → good n ≡ sizeOfOutcome o → (s : List ℕ) × (o ≡ good s) × (length s ≡ n)
+unfolding sizeOfOutcome
 measured (good s) e = (s, refl, sym (good-inj e))
 measured (bad m p) e = absurd (good≢bad (sym e))
 
 -- the answers of a reading that comes to o, with the buffer b
 module _ (b : List ℕ) where
-  pub refusing : (o : Outcome (List ℕ)) {n p : ℕ} → bad n p ≡ sized o → answer n p 0 b ≡ stored b (o >>= fitted b)
-  unfolding stored sized _>>=_
+  pub refusing : (o : Outcome (List ℕ)) {n p : ℕ} → bad n p ≡ sizeOfOutcome o → answer n p 0 b ≡ stored b (o >>= fitted b)
+  unfolding stored sizeOfOutcome _>>=_
   refusing (good s) e = absurd (good≢bad e)
   refusing (bad m q) {n} {p} e =
       let i : n ≡ m = cc in

@@ -21,7 +21,7 @@ use Rattle.rules.proofs.Passed.{Passed, passes}
 use Rattle.rules.proofs.Cleaned.{fills, write-read}
 use Rattle.rules.proofs.Valids.{valid, run-length}
 use Rattle.rules.proofs.Writer.{parts}
-use Rattle.compose.specs.Payload.{Cuts, messageOf, sizeOf, sized, finished, Fit}
+use Rattle.compose.specs.Payload.{Cuts, messageOf, sizeOf, sizeOfOutcome, finished, Fit}
 use Rattle.compose.proofs.Answered.{answer, refusing, finishing}
 use Rattle.compose.proofs.Whole.{rendered-length}
 
@@ -105,14 +105,14 @@ reads s k b e =
 
 -- a refusal is the same, whatever a reading would have given
 same-refusal : {A B : Type 0} (c : Outcome (Unit {0})) (o : Outcome A) (f : A → B) (g : A → List ℕ) {n p : ℕ}
-    → bad n p ≡ (c >> (o >>= λ a. good (f a))) → bad n p ≡ sized (c >> (o >>= λ a. good (g a)))
-unfolding _>>_ _>>=_ sized
+    → bad n p ≡ (c >> (o >>= λ a. good (f a))) → bad n p ≡ sizeOfOutcome (c >> (o >>= λ a. good (g a)))
+unfolding _>>_ _>>=_ sizeOfOutcome
 same-refusal (bad m q) o f g {n} {p} e = let i : n ≡ m = cc in let j : p ≡ q = cc in rw (i, j)
 same-refusal (good tt) (bad m q) f g {n} {p} e = let i : n ≡ m = cc in let j : p ≡ q = cc in rw (i, j)
 same-refusal (good tt) (good a) f g e = absurd (good≢bad e)
 
 -- a message that is refused
-pub unread : (s : List ℕ) {n p : ℕ} → bad n p ≡ messageAt s 0 → bad n p ≡ sized (notLarge s >> cleanForm s)
+pub unread : (s : List ℕ) {n p : ℕ} → bad n p ≡ messageAt s 0 → bad n p ≡ sizeOfOutcome (notLarge s >> cleanForm s)
 unfolding messageAt messageHere cleanForm
 unread s e = same-refusal (notLarge s) (checksOneToTen 0 s (head s)) (messageSpot 0 (head s)) (cleanBytes s) e
 

@@ -14,15 +14,15 @@ use Rattle.rules.proofs.Cut as Cut
 use Rattle.rules.proofs.Pieces.{length-padded}
 use Rattle.rules.proofs.Cleaned.{any-filled}
 use Rattle.rules.proofs.Loops.{sets-sets}
-use Rattle.compose.specs.Payload.{Cuts, rendered, payloadOf, headerOf, messageOf, sizeOf}
+use Rattle.compose.specs.Payload.{Cuts, piecesWritten, payloadOf, headerOf, messageOf, sizeOf}
 use Rattle.compose.proofs.Stores.{sets-part}
 use Rattle.compose.proofs.Run.{piece-length}
 
 -- the pieces written again are as long as the run
-pub rendered-length : {cs : List (List ℕ)} {s : List ℕ} → Fills cs s → length (rendered cs) ≡ length s
+pub rendered-length : {cs : List (List ℕ)} {s : List ℕ} → Fills cs s → length (piecesWritten cs) ≡ length s
 rendered-length none = refl
 rendered-length (more {c = c} {cs = cs} {s = s} h r) =
-    omega (arith, length-append (pieceOf (packageOf c)) (rendered cs), length-append c s, piece-length c h, rendered-length r)
+    omega (arith, length-append (pieceOf (packageOf c)) (piecesWritten cs), length-append c s, piece-length c h, rendered-length r)
 
 -- 0 for no bytes, 1 for some
 pub any-none : (s : List ℕ) → length s ≡ 0 → oneIfAny s ≡ 0
@@ -75,7 +75,7 @@ pub message-length : (d : Draft) → Cuts (d .packages) → length (messageOf d 
 unfolding messageOf write drafted
 message-length d w =
     let f : Fills (w .pieces) (d .packages) = Cut.sound 0 0 (d .packages) (w .cuts) in
-    rw (w .cuts) (omega (arith, length-append (padded (d .options)) (rendered (w .pieces)), length-padded (d .options), rendered-length f))
+    rw (w .cuts) (omega (arith, length-append (padded (d .options)) (piecesWritten (w .pieces)), length-padded (d .options), rendered-length f))
 
 -- the same where the packages are stored in a part that is lent
 pub whole-stored : (d : Draft) (b : List ℕ) {b₁ b₂ ys : List ℕ} {n f : ℕ} → Cuts (d .packages) → n ≡ pad (length (d .options)) → f ≡ flagsOf d

@@ -16,12 +16,12 @@ pub record Cuts (s : List ℕ) : Type 0 where
   pub cuts : cut zero s ≡ good pieces
 
 -- the packages of these pieces, written one behind the other
-abbrev pub rendered : List (List ℕ) → List ℕ
-rendered cs = join (map pieceOf (map packageOf cs))
+abbrev pub piecesWritten : List (List ℕ) → List ℕ
+piecesWritten cs = join (map pieceOf (map packageOf cs))
 
 -- the packages of a run that is cut so, written
 unfoldable pub payloadOf : Outcome (List (List ℕ)) → List ℕ
-payloadOf (good cs) = rendered cs
+payloadOf (good cs) = piecesWritten cs
 payloadOf (bad n p) = []
 
 -- the 12 bytes of the header of a piece's package with n bytes of data
@@ -63,6 +63,6 @@ unfoldable pub finished : Draft → List ℕ → Written × List ℕ
 finished d buffer = stored buffer (fitted buffer (messageOf d (cut zero (d .packages))))
 
 -- how many bytes an outcome has
-unfoldable pub sized : Outcome (List ℕ) → Outcome ℕ
-sized (good s) = good (length s)
-sized (bad n p) = bad n p
+unfoldable pub sizeOfOutcome : Outcome (List ℕ) → Outcome ℕ
+sizeOfOutcome (good s) = good (length s)
+sizeOfOutcome (bad n p) = bad n p

@@ -12,7 +12,7 @@ ghost use lib.ListN.{length, drop};
 ghost use lib.Seq.{sets};
 ghost use Rattle.rules.specs.Bytes.{half, pad, part, padded, oneIfAny};
 ghost use Rattle.rules.specs.Packages.{packageFits, cut, packageOf, pieceOf};
-ghost use Rattle.compose.specs.Payload.{Cuts, Moved, payloadOf, frontOf, headerOf, messageOf, finished, sized, Fit, Ready};
+ghost use Rattle.compose.specs.Payload.{Cuts, Moved, payloadOf, frontOf, headerOf, messageOf, finished, sizeOfOutcome, Fit, Ready};
 ghost use Rattle.compose.specs.Told.{draftOf, recordBy, toldSize, told};
 ghost use Rattle.rules.specs.Writer.{writer, written};
 ghost use Rattle.rules.specs.Clean.{cleaner};
@@ -225,7 +225,7 @@ enum Size {
     Refused(Refusal),
 }
 
-fn no(why: Why, place: usize) -> Size
+fn refuse_with(why: Why, place: usize) -> Size
     ensures { λ r. ⌜ r ≡ Size.Refused (record { why = why; place = place }) ⌝ }
 {
     Size::Refused(Refusal { why, place })
@@ -250,25 +250,25 @@ fn size_of(o: usize, p: usize) -> usize
 
 // Checks what the writer takes, and measures what it writes.
 fn measure(r: Record, options: &[u8], packages: &[u8]) -> Size
-    ensures { λ a. ⌜ toldSize a ≡ sized (written (draftOf r (now (options .entry)) (now (packages .entry)))) ⌝ }
+    ensures { λ a. ⌜ toldSize a ≡ sizeOfOutcome (written (draftOf r (now (options .entry)) (now (packages .entry)))) ⌝ }
 {
     let n = size_of(options.len(), packages.len());
     if 65536 < n {
-        return no(Why::Large, 65536);
+        return refuse_with(Why::Large, 65536);
     }
     if 999999999 < r.nanos {
-        return no(Why::Time, 0);
+        return refuse_with(Why::Time, 0);
     }
     if 60 < options.len() {
-        return no(Why::Option, 60);
+        return refuse_with(Why::Option, 60);
     }
-    match message::options_of(options) {
+    match message::option_run_length(options) {
         Count::Refused(x) => Size::Refused(x),
         Count::Number(k) => {
             if k < options.len() {
-                return no(Why::Option, k);
+                return refuse_with(Why::Option, k);
             }
-            match message::cut_of(packages) {
+            match message::count_packages(packages) {
                 Count::Refused(x) => Size::Refused(x),
                 Count::Number(_) => Size::Needs(n),
             }

@@ -20,43 +20,43 @@ use Rattle.rules.proofs.Loops.{rest, Doing, doing-start, doing-next, doing-end,
 use Rattle.rules.proofs.Cut as Cut
 use Rattle.message.proofs.Tests.{is, isnt}
 use Rattle.message.proofs.Checks.{short}
-use Rattle.message.specs.Answers.{headOf, headerOf, between, Opened, cutCount, framedSpot, messageHere, toldMessage}
+use Rattle.message.specs.Answers.{headOf, headerOf, oneIfBytes, Opened, cutCount, spotBehindRun, messageHere, toldMessage}
 use Rattle.rules.specs.Reading.{MessageSpot, messageSpot, messageAt}
 use Rattle.message.specs.declared.Raw.{Raw}
 use Rattle.message.specs.declared.Header.{Header}
 use Rattle.message.specs.declared.MessageRead.the-variants as messageRead
 
 -- a part is empty or not by its ends
-any-part : (s : List ℕ) (a e : ℕ) → e ≤ length s → oneIfAny (part a e s) ≡ between a e
-unfolding between
+any-part : (s : List ℕ) (a e : ℕ) → e ≤ length s → oneIfAny (part a e s) ≡ oneIfBytes a e
+unfolding oneIfBytes
 any-part s a e h = go (ltb a e) refl
   where
-    go : (b : Bool) → ltb a e ≡ b → oneIfAny (part a e s) ≡ between a e
+    go : (b : Bool) → ltb a e ≡ b → oneIfAny (part a e s) ≡ oneIfBytes a e
     go true t =
         let l : a < e = ltb-true _ _ t in
         let m : a < length s = omega arith in
         let k : e - a ≡ suc (e - suc a) = omega arith in
-        rw (t, between) (rw (k, drop-cons s a 0 m))
+        rw (t, oneIfBytes) (rw (k, drop-cons s a 0 m))
     go false t =
         let l : e ≤ a = ltb-false _ _ t in
         let k : e - a ≡ 0 = omega arith in
-        rw (t, between) (rw k)
+        rw (t, oneIfBytes) (rw k)
 
 uncut : (p : ℕ) (s : List ℕ) {m q : ℕ} → cutCount p s ≡ bad m q → cut p s ≡ bad m q
 unfolding cutCount
 uncut p s e = ⊎-elim (λ z. z) (λ z. absurd (good≢bad (sym (z .2)))) (refused-step _ _ e)
 
 module _ (p : ℕ) (s : List ℕ) (h : Head) (n : ℕ) where
-  pub fragment : (h .flags / 16 % 4 ≡ 0 → ⊥) → bad FRAGMENT p ≡ framedSpot p s h n
-  unfolding framedSpot checksEightToTen
+  pub fragment : (h .flags / 16 % 4 ≡ 0 → ⊥) → bad FRAGMENT p ≡ spotBehindRun p s h n
+  unfolding spotBehindRun checksEightToTen
   fragment a = sym (stop _ _ (halt _ _ _ _ (isnt (h .flags / 16 % 4) 0 a)))
 
-  module _ (a : h .flags / 16 % 4 ≡ 0) (o : Opened s h p) (f z : ℕ) (ef : f ≡ 24 + 4 * h .words) (ez : z ≡ h .size) (b : ℕ) (eb : b ≡ between f z) where
+  module _ (a : h .flags / 16 % 4 ≡ 0) (o : Opened s h p) (f z : ℕ) (ef : f ≡ 24 + 4 * h .words) (ez : z ≡ h .size) (b : ℕ) (eb : b ≡ oneIfBytes f z) where
     some-payload : oneIfAny (part (payloadStart h) (h .size) s) ≡ b
     some-payload = any-part s (payloadStart h) (h .size) (o .most) ∙ rw (← ef, ← ez) (sym eb)
 
-    pub standard : (h .flags / 128 % 2 ≡ b → ⊥) → bad STANDARD p ≡ framedSpot p s h n
-    unfolding framedSpot checksEightToTen
+    pub standard : (h .flags / 128 % 2 ≡ b → ⊥) → bad STANDARD p ≡ spotBehindRun p s h n
+    unfolding spotBehindRun checksEightToTen
     standard c =
         let q : oneIfAny (part (payloadStart h) (h .size) s) ≡ b = some-payload in
         sym (stop _ _ (pass _ _ _ _ (is (h .flags / 16 % 4) 0 a) (halt _ _ _ _ (isnt (h .flags / 128 % 2) (oneIfAny (part (payloadStart h) (h .size) s)) (λ w. c (w ∙ q))))))
@@ -65,14 +65,14 @@ module _ (p : ℕ) (s : List ℕ) (h : Head) (n : ℕ) where
       fits : h .flags / 128 % 2 ≡ oneIfAny (part (payloadStart h) (h .size) s)
       fits = c ∙ sym some-payload
 
-      pub no-cut : {m q : ℕ} → bad m q ≡ cutCount (p + f) (take (z - f) (drop f s)) → bad m q ≡ framedSpot p s h n
-      unfolding framedSpot checksEightToTen cutCount
+      pub no-cut : {m q : ℕ} → bad m q ≡ cutCount (p + f) (take (z - f) (drop f s)) → bad m q ≡ spotBehindRun p s h n
+      unfolding spotBehindRun checksEightToTen cutCount
       no-cut {m} {q} e =
           let g : cutCount (p + payloadStart h) (part (payloadStart h) (h .size) s) ≡ bad m q = sym (rw (ef, ez) at e) in
           sym (stop _ _ (pass _ _ _ _ (is (h .flags / 16 % 4) 0 a) (pass _ _ _ _ (is (h .flags / 128 % 2) (oneIfAny (part (payloadStart h) (h .size) s)) fits) (uncut (p + payloadStart h) (part (payloadStart h) (h .size) s) g))))
 
-      pub whole : (k : ℕ) → good k ≡ cutCount (p + f) (take (z - f) (drop f s)) → good (record { head = h; run = n; payload = p + f; next = p + z; packages = k }) ≡ framedSpot p s h n
-      unfolding framedSpot checksEightToTen cutCount messageSpot
+      pub whole : (k : ℕ) → good k ≡ cutCount (p + f) (take (z - f) (drop f s)) → good (record { head = h; run = n; payload = p + f; next = p + z; packages = k }) ≡ spotBehindRun p s h n
+      unfolding spotBehindRun checksEightToTen cutCount messageSpot
       whole k e =
           let (cs, g, d) = stepped _ _ (sym (rw (ef, ez) at e)) in
           let w : length cs ≡ k = good-inj d in
@@ -96,8 +96,8 @@ module _ (p : ℕ) (s : List ℕ) (h : Raw) (eh : headOf h ≡ head s) where
   unfolding messageHere checksOneToTen
   not-open e = sym (stop _ _ (stop _ _ (rw (← eh) (sym e))))
 
-  pub framing : (n : ℕ) {o : Outcome MessageSpot} → good n ≡ optionRunLength p s (headOf h) → o ≡ framedSpot p s (headOf h) n → o ≡ messageHere p s
-  unfolding messageHere checksOneToTen framedSpot
+  pub framing : (n : ℕ) {o : Outcome MessageSpot} → good n ≡ optionRunLength p s (headOf h) → o ≡ spotBehindRun p s (headOf h) n → o ≡ messageHere p s
+  unfolding messageHere checksOneToTen spotBehindRun
   framing n e f =
       let g : optionRunLength p s (head s) ≡ good n = rw (← eh) (sym e) in
       (rw eh at f) ∙ sym (ap (λ (x : Outcome (ℕ × List (List ℕ))). x >>= λ (r : ℕ × List (List ℕ)). good (messageSpot p (head s) r)) (step _ _ g refl) ∙ regroup _ _ _)

@@ -7,7 +7,7 @@ use Rattle.rules.specs.Message.{Head}
 use Rattle.rules.specs.Claims.{TellsApart}
 use Rattle.rules.proofs.Outcomes.{good-inj, good≢bad}
 use Rattle.refusal.proofs.Numbers.{refused-injective}
-use Rattle.message.specs.Answers.{headTold, toldHeader, packageTold, toldPackage, spotTold, toldMessage, toldCount, toldCheck}
+use Rattle.message.specs.Answers.{headOfHeader, toldHeader, spotOfPackage, toldPackage, spotOfMessage, toldMessage, toldCount, toldCheck}
 use Rattle.rules.specs.Walk.{PackageSpot}
 use Rattle.rules.specs.Reading.{MessageSpot}
 use Rattle.message.specs.declared.Header.{Header}
@@ -32,13 +32,13 @@ headerBack r = record {
   run = r .1;
 }
 
-header-back : (h : Header) → headerBack (headTold h, h .run) ≡ h
+header-back : (h : Header) → headerBack (headOfHeader h, h .run) ≡ h
 unfolding headerBack
 header-back h = refl
 
 pub same-header : TellsApart toldHeader
 same-header (headerRead.Header h) (headerRead.Header g) e =
-    let q : _≡_ {A = Head × ℕ} (headTold h, h .run) (headTold g, g .run) = good-inj e in
+    let q : _≡_ {A = Head × ℕ} (headOfHeader h, h .run) (headOfHeader g, g .run) = good-inj e in
     ap headerRead.Header (sym (header-back h) ∙ ap headerBack q ∙ header-back g)
 same-header (headerRead.Header h) (headerRead.Refused r) e = absurd (good≢bad (sym e))
 same-header (headerRead.Refused r) (headerRead.Header h) e = absurd (good≢bad e)
@@ -47,7 +47,7 @@ same-header (headerRead.Refused r) (headerRead.Refused q) e = ap headerRead.Refu
 packageBack : PackageSpot → Package
 packageBack k = record { id = record { 0 = k .id }; length = k .size; status = k .status; delta = k .delta; from = k .from; to = k .to; next = k .next }
 
-package-back : (k : Package) → packageBack (packageTold k) ≡ k
+package-back : (k : Package) → packageBack (spotOfPackage k) ≡ k
 unfolding packageBack
 package-back k = refl
 
@@ -72,7 +72,7 @@ same-package (packageRead.Refused r) (packageRead.Refused q) e = ap packageRead.
 messageBack : MessageSpot → Message
 messageBack d = record { header = headerBack (d .head, d .run); payload = d .payload; next = d .next; packages = d .packages }
 
-message-back : (m : Message) → messageBack (spotTold m) ≡ m
+message-back : (m : Message) → messageBack (spotOfMessage m) ≡ m
 unfolding messageBack headerBack
 message-back m = refl
 

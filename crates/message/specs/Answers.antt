@@ -90,8 +90,8 @@ cutCount p s = do
   good (length cs)
 
 -- 1 where there are bytes between a and e
-unfoldable pub between : ℕ → ℕ → ℕ
-between a e = elim (ltb a e) [ true ↦ 1 | false ↦ 0 ]
+unfoldable pub oneIfBytes : ℕ → ℕ → ℕ
+oneIfBytes a e = elim (ltb a e) [ true ↦ 1 | false ↦ 0 ]
 
 -- what checks 1 to 7 leave known of the message at the start of s, which stands at place p
 pub record Opened (s : List ℕ) (h : Head) (p : ℕ) : Type 0 where
@@ -104,8 +104,8 @@ pub record Opened (s : List ℕ) (h : Head) (p : ℕ) : Type 0 where
 -- ---- a header alone
 
 -- version and type can only be 1 and 0
-abbrev pub headTold : Header → Head
-headTold h = record {
+abbrev pub headOfHeader : Header → Head
+headOfHeader h = record {
   version = 1;
   words = h .words;
   kind = 0;
@@ -118,7 +118,7 @@ headTold h = record {
 }
 
 abbrev pub toldHeader : HeaderRead → Outcome (Head × ℕ)
-toldHeader (headerRead.Header h) = good (headTold h, h .run)
+toldHeader (headerRead.Header h) = good (headOfHeader h, h .run)
 toldHeader (headerRead.Refused r) = refused r
 
 -- r is a part of s, and begins at its element k: it lies in the same memory, k bytes further on
@@ -128,19 +128,19 @@ pub record PartOf (s : RefT (List ℕ)) (k : ℕ) (r : RefT (List ℕ)) : Type 0
 
 -- ---- a package in a run
 
-abbrev pub packageTold : Package → PackageSpot
-packageTold k = record { id = k .id .0; size = k .length; status = k .status; delta = k .delta; from = k .from; to = k .to; next = k .next }
+abbrev pub spotOfPackage : Package → PackageSpot
+spotOfPackage k = record { id = k .id .0; size = k .length; status = k .status; delta = k .delta; from = k .from; to = k .to; next = k .next }
 
 abbrev pub toldPackage : PackageRead → Outcome (Option PackageSpot)
-toldPackage (packageRead.Package k) = good (some (packageTold k))
+toldPackage (packageRead.Package k) = good (some (spotOfPackage k))
 toldPackage packageRead.End = good none
 toldPackage (packageRead.Refused r) = refused r
 
 -- ---- a message in a recording
 
 -- checks 8 to 10, behind an option run of n bytes
-unfoldable pub framedSpot : ℕ → List ℕ → Head → ℕ → Outcome MessageSpot
-framedSpot p s h n = do
+unfoldable pub spotBehindRun : ℕ → List ℕ → Head → ℕ → Outcome MessageSpot
+spotBehindRun p s h n = do
   cs ← checksEightToTen p s h
   good (messageSpot p h (n, cs))
 
@@ -150,11 +150,11 @@ messageHere p s = do
   r ← checksOneToTen p s (head s)
   good (messageSpot p (head s) r)
 
-abbrev pub spotTold : Message → MessageSpot
-spotTold m = record { head = headTold (m .header); run = m .header .run; payload = m .payload; next = m .next; packages = m .packages }
+abbrev pub spotOfMessage : Message → MessageSpot
+spotOfMessage m = record { head = headOfHeader (m .header); run = m .header .run; payload = m .payload; next = m .next; packages = m .packages }
 
 abbrev pub toldMessage : MessageRead → Outcome MessageSpot
-toldMessage (messageRead.Message m) = good (spotTold m)
+toldMessage (messageRead.Message m) = good (spotOfMessage m)
 toldMessage (messageRead.Refused r) = refused r
 
 -- ---- a recording

@@ -127,7 +127,7 @@ fn raw_of(m: &[u8]) -> Raw
 }
 
 // Where the payload begins.
-fn front(words: u8) -> usize
+fn payload_start(words: u8) -> usize
     ensures { λ r. ⌜ (r ≡ 24 + 4 * words) × (r < 2048) ⌝ }
 {
     24 + 4 * wide8(words)
@@ -146,7 +146,7 @@ fn shut(why: Why, place: usize) -> Gate
 }
 
 // Checks 1 to 6 of the message at the start of m, which stands at place p.
-fn judge(m: &[u8], h: Raw, p: usize) -> Gate
+fn checks_one_to_six(m: &[u8], h: Raw, p: usize) -> Gate
     ensures { λ r. ⌜ spec.toldGate r ≡ rule.checksOneToSix p (now (m .entry)) (spec.headOf h) ⌝ }
 {
     if m.len() < 24 {
@@ -159,7 +159,7 @@ fn judge(m: &[u8], h: Raw, p: usize) -> Gate
         return shut(Why::Kind, p);
     }
     let size = wide32(h.size);
-    if size < front(h.words) {
+    if size < payload_start(h.words) {
         return shut(Why::Length, p);
     }
     if size % 4 != 0 {
@@ -175,7 +175,7 @@ fn judge(m: &[u8], h: Raw, p: usize) -> Gate
 }
 
 // Whether an option of kind k, 0x80 or above, may have n bytes.
-fn sized(k: u8, n: u8) -> bool
+fn length_allowed(k: u8, n: u8) -> bool
     ensures { λ r. ⌜ r ≡ options.lengthAllowed k n ⌝ }
 {
     if n < 2 {
@@ -223,7 +223,7 @@ fn option_here(o: &[u8]) -> Opt
         return Opt::Takes(1);
     }
     let n = wire::byte_at(o, 1);
-    if !sized(k, n) {
+    if !length_allowed(k, n) {
         return Opt::Bad;
     }
     let size = wide8(n);
@@ -265,14 +265,14 @@ fn run_of(o: &[u8], p: usize) -> Count
 }
 
 // Checks 1 to 7 of the message at the start of m, which stands at place p: how long its option run is.
-fn opened(m: &[u8], h: Raw, p: usize) -> Count
+fn checks_one_to_seven(m: &[u8], h: Raw, p: usize) -> Count
     requires { ⌜ p + length (now m) < 4294967296 ⌝ }
     ensures { λ r. ⌜ spec.toldCount r ≡ rule.optionRunLength p (now (m .entry)) (spec.headOf h) ⌝ }
 {
-    match judge(m, h, p) {
+    match checks_one_to_six(m, h, p) {
         Gate::Shut(r) => Count::Refused(r),
         Gate::Open => {
-            let e = front(h.words);
+            let e = payload_start(h.words);
             run_of(&m[24..e], p + 24)
         }
     }
@@ -304,7 +304,7 @@ pub fn read_header(s: &[u8]) -> HeaderRead
         });
     }
     let h = raw_of(s);
-    match opened(s, h, 0) {
+    match checks_one_to_seven(s, h, 0) {
         Count::Refused(r) => HeaderRead::Refused(r),
         Count::Number(n) => HeaderRead::Header(header_of(h, n)),
     }
@@ -421,16 +421,16 @@ fn packages_of(q: &[u8], p: usize) -> Count
 }
 
 // 1 where there are bytes between a and e, and 0 otherwise.
-fn some(a: usize, e: usize) -> u8
-    ensures { λ r. ⌜ r ≡ spec.between a e ⌝ }
+fn one_if_bytes(a: usize, e: usize) -> u8
+    ensures { λ r. ⌜ r ≡ spec.oneIfBytes a e ⌝ }
 {
     if a < e { 1 } else { 0 }
 }
 
 // Checks 8 to 10 of the message at the start of m, which stands at place p and has passed checks 1 to 7 with an option run of n bytes.
-fn framed(m: &[u8], h: Raw, p: usize, n: usize) -> MessageRead
+fn checks_eight_to_ten(m: &[u8], h: Raw, p: usize, n: usize) -> MessageRead
     requires { ⌜ spec.Opened (now m) (spec.headOf h) p ⌝ }
-    ensures { λ r. ⌜ spec.toldMessage r ≡ spec.framedSpot p (now (m .entry)) (spec.headOf h) n ⌝ }
+    ensures { λ r. ⌜ spec.toldMessage r ≡ spec.spotBehindRun p (now (m .entry)) (spec.headOf h) n ⌝ }
 {
     if h.flags / 16 % 4 != 0 {
         return MessageRead::Refused(Refusal {
@@ -438,9 +438,9 @@ fn framed(m: &[u8], h: Raw, p: usize, n: usize) -> MessageRead
             place: p,
         });
     }
-    let a = front(h.words);
+    let a = payload_start(h.words);
     let e = wide32(h.size);
-    if h.flags / 128 % 2 != some(a, e) {
+    if h.flags / 128 % 2 != one_if_bytes(a, e) {
         return MessageRead::Refused(Refusal {
             why: Why::Standard,
             place: p,
@@ -466,9 +466,9 @@ fn message_here(m: &[u8], p: usize) -> MessageRead
     ensures { λ r. ⌜ spec.toldMessage r ≡ spec.messageHere p (now (m .entry)) ⌝ }
 {
     let h = raw_of(m);
-    match opened(m, h, p) {
+    match checks_one_to_seven(m, h, p) {
         Count::Refused(r) => MessageRead::Refused(r),
-        Count::Number(n) => framed(m, h, p, n),
+        Count::Number(n) => checks_eight_to_ten(m, h, p, n),
     }
 }
 
@@ -520,7 +520,7 @@ pub fn check(s: &[u8]) -> Checked
 }
 
 // How long the run of a bare list of options is: LARGE, then check 7 with places in the list.
-pub fn options_of(o: &[u8]) -> Count
+pub fn option_run_length(o: &[u8]) -> Count
     ensures { λ r. ⌜ spec.toldCount r ≡ runs.optionsOf (now (o .entry)) ⌝ }
 {
     if 65536 < o.len() {
@@ -533,7 +533,7 @@ pub fn options_of(o: &[u8]) -> Count
 }
 
 // How many packages a bare run holds: LARGE, then check 10 with places in the run.
-pub fn cut_of(q: &[u8]) -> Count
+pub fn count_packages(q: &[u8]) -> Count
     ensures { λ r. ⌜ spec.toldCount r ≡ runs.cutOf (now (q .entry)) ⌝ }
 {
     if 65536 < q.len() {

@@ -21,7 +21,7 @@ use Rattle.rules.proofs.Outcomes.{pass, step, stop, passed, stepped, good-inj, 
 use Rattle.rules.proofs.Cut as Cut
 use Rattle.rules.proofs.Passed.{Passed, passes}
 use Rattle.rules.proofs.Growing.{released-snoc, rendered-snoc}
-use Rattle.rules.specs.Copy.{idOf}
+use Rattle.rules.proofs.Growing.{idOf}
 use Rattle.rules.proofs.Loops.{Doing, doing-next}
 use Rattle.refusal.specs.declared.Refusal.{Refusal}
 use Rattle.refusal.specs.Numbers.{numberOf}

@@ -15,7 +15,7 @@ use Rattle.rules.specs.Sheet as rows
 use Rattle.rules.specs.Copy.{Entry, withEntryOf, released, count, copyMessages, copyBytes}
 use Rattle.rules.proofs.Outcomes.{pass, good-inj, good≢bad}
 use Rattle.rules.proofs.Growing.{map-append}
-use Rattle.rules.specs.Copy.{idOf}
+use Rattle.rules.proofs.Growing.{idOf}
 use Rattle.rules.proofs.Loops.{Doing, doing-start, doing-end, doing-bad, sets-sets}
 use Rattle.refusal.specs.declared.Refusal.{Refusal}
 use Rattle.refusal.specs.Numbers.{numberOf}

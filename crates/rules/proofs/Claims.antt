@@ -12,8 +12,8 @@ use Rattle.rules.specs.Buffer.{fitted}
 use Rattle.rules.specs.Writer.{written, writer}
 use Rattle.rules.specs.Clean.{cleanForm, cleaner}
 use Rattle.rules.specs.Copy.{releasedOf, roomFor, answered, copy}
-use Rattle.rules.specs.Burst.{randomizing, opening, randomizer, opener}
-use Rattle.rules.specs.Claims.{BuffersKept, WrittenRead, AcceptedValid, ReadValid, ReadWritten, PartsWritten, WriterWrites, CleanerWrites, SpotOfRecord, CleanTwice, CleanExactly, PackageExactly, CutExactly, WalkShowsAll, WalkStays, GrantedExactly, Recurrence, BitPeriod, TableEntry, RandomizedTwice, RandomizedByte, BurstOpened, TableHolds, SameCopies, DifferentCopies, CountsReleased, SequenceCounted, ReleasedEach, CopyRead, CopyPlain, OneOutcome, partsOf}
+use Rattle.rules.specs.Burst.{randomized, opening, randomizer, opener}
+use Rattle.rules.specs.Claims.{BuffersKept, WrittenRead, AcceptedValid, ReadValid, ReadWritten, PartsWritten, WriterWrites, CleanerWrites, SpotOfRecord, CleanTwice, CleanExactly, PackageExactly, CutExactly, WalkShowsAll, WalkStays, GrantedExactly, Recurrence, BitPeriod, TableEntry, RandomizedTwice, RandomizedByte, BurstOpened, SameCopies, DifferentCopies, CountsReleased, SequenceCounted, ReleasedEach, CopyRead, CopyPlain, OneOutcome, partsOf}
 use Rattle.rules.proofs.Outcomes.{pass, step, stepped, good-inj}
 use Rattle.rules.proofs.Kept.{careful-stored, careful-answered, kept-randomized, kept-opened, writes}
 use Rattle.rules.proofs.Cut as Cut
@@ -24,6 +24,7 @@ use Rattle.rules.proofs.Refused.{exactly}
 use Rattle.rules.proofs.Walks.{walks-cut, stays}
 use Rattle.rules.proofs.Granted.{granted-exactly}
 use Rattle.rules.proofs.Sequence as Sequence
+use Rattle.rules.specs.Table.{Table}
 use Rattle.rules.proofs.Table.{table}
 use Rattle.rules.proofs.Growing.{stamped-snoc, released-append}
 use Rattle.rules.proofs.Interference.{copy-is, delivered-is, same-list, copy-read, copy-plain}
@@ -38,7 +39,7 @@ buffers-kept = record {
   writer = λ d buffer. careful-stored buffer (written d >>= fitted buffer);
   cleaner = λ s buffer. careful-stored buffer ((notLarge s >> cleanForm s) >>= fitted buffer);
   copy = λ sheet recording buffer. careful-answered buffer (releasedOf sheet recording >>= roomFor buffer);
-  randomizer = λ buffer. kept-randomized buffer (randomizing buffer);
+  randomizer = λ buffer. kept-randomized buffer (notLarge buffer >> good (randomized 0 buffer));
   opener = λ buffer. kept-opened buffer (opening buffer);
 }
 
@@ -126,7 +127,7 @@ randomized-byte s k h = rw zero-add at (Sequence.randomized-at 0 s k h)
 pub burst-opened : BurstOpened
 burst-opened = Sequence.burst-opened
 
-pub table-holds : TableHolds
+pub table-holds : Table
 table-holds = table
 
 -- ---- demand 3

@@ -11,7 +11,11 @@ use Rattle.rules.specs.Packages.{Package}
 use Rattle.rules.specs.Message.{Message}
 use Rattle.rules.specs.Writer.{write}
 use Rattle.rules.specs.Sheet.{Row}
-use Rattle.rules.specs.Copy.{Entry, idOf, grantedPackages, withEntryOf, released, count, copyMessage, copyMessages, copyBytes}
+use Rattle.rules.specs.Copy.{Entry, grantedPackages, withEntryOf, released, count, copyMessage, copyMessages, copyBytes}
+
+-- the message id of an entry
+abbrev pub idOf : Entry → ℕ
+idOf e = e .id
 
 -- lists one behind the other
 pub join-append : (cs ds : List (List ℕ)) → join (cs ++ ds) ≡ join cs ++ join ds

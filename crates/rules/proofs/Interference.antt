@@ -12,64 +12,65 @@ use Rattle.rules.specs.Items.{items, All, all-nil, all-cons}
 use Rattle.rules.specs.Message.{Message, message, recording}
 use Rattle.rules.specs.Packages.{Package}
 use Rattle.rules.specs.Sheet.{Row}
+use Rattle.rules.specs.Buffer.{fitted}
 use Rattle.rules.specs.Valid.{Valid}
 use Rattle.rules.specs.Copy.{Entry, listedBits, grantedPackages, withEntryOf, released, count, copyMessage, copyMessages, copyBytes, packagesIn, releasedOf, roomFor, answered, copy, delivered}
 use Rattle.rules.specs.Claims.{Plain}
-use Rattle.rules.proofs.Outcomes.{pass, halt, step, passed, stepped, good-inj}
+use Rattle.rules.proofs.Outcomes.{pass, halt, step, stop, passed, stepped, good-inj}
 use Rattle.rules.proofs.Kept.{take-sets}
 use Rattle.rules.proofs.RoundTrip.{all-written-read}
 use Rattle.rules.proofs.Released.{all-valid, entries, valid-stamped, stamped-injective}
 
 -- the copy's messages are valid
-valid-released : (rs : List Row) (tape : List ℕ) (ms : List Message) → Bytes tape → recording tape ≡ good ms → All Valid (copyMessages [] (released rs ms))
+valid-released : (rs : List Row) (recordingBytes : List ℕ) (ms : List Message) → Bytes recordingBytes → recording recordingBytes ≡ good ms → All Valid (copyMessages [] (released rs ms))
 unfolding recording
-valid-released rs tape ms b e =
+valid-released rs recordingBytes ms b e =
     let (large, read) = passed _ _ _ _ e in
-    let fits : length tape ≤ 65536 = ltb-false _ _ large in
-    let w = all-valid 0 0 tape b fits read in
+    let fits : length recordingBytes ≤ 65536 = ltb-false _ _ large in
+    let w = all-valid 0 0 recordingBytes b fits read in
     let v = entries rs (w .valid) in
     valid-stamped [] (v .valid) (omega (arith, w .few, v .few))
 
-module _ (orders tape : List ℕ) (es : List Entry) (list : releasedOf orders tape ≡ good es) where
+module _ (sheetBytes recordingBytes : List ℕ) (es : List Entry) (list : releasedOf sheetBytes recordingBytes ≡ good es) where
   -- with room, the answer is the released list's, and its copy is stored
   pub copy-is : (buffer : List ℕ) → length (copyBytes es) ≤ length buffer
-      → copy orders tape buffer ≡ (record { number = 0; place = 0; bytes = length (copyBytes es); messages = length es; packages = packagesIn es }, sets buffer 0 (copyBytes es))
-  unfolding copy answered roomFor
-  copy-is buffer l = ap (answered buffer) (step _ _ list (pass _ _ _ _ (le-ltb (length buffer) (length (copyBytes es)) l) refl))
+      → copy sheetBytes recordingBytes buffer ≡ (record { number = 0; place = 0; bytes = length (copyBytes es); messages = length es; packages = packagesIn es }, sets buffer 0 (copyBytes es))
+  unfolding copy answered roomFor fitted
+  copy-is buffer l = ap (answered buffer) (step _ _ list (step _ _ (pass _ _ _ _ (le-ltb (length buffer) (length (copyBytes es)) l) refl) refl))
 
   -- without, the answer is ROOM with the bytes needed, and the buffer stays
   pub copy-roomless : (buffer : List ℕ) → length buffer < length (copyBytes es)
-      → copy orders tape buffer ≡ (record { number = ROOM; place = length (copyBytes es); bytes = 0; messages = 0; packages = 0 }, buffer)
-  unfolding copy answered roomFor
-  copy-roomless buffer l = ap (answered buffer) (step _ _ list (halt _ _ _ _ (lt-ltb (length buffer) (length (copyBytes es)) l)))
+      → copy sheetBytes recordingBytes buffer ≡ (record { number = ROOM; place = length (copyBytes es); bytes = 0; messages = 0; packages = 0 }, buffer)
+  unfolding copy answered roomFor fitted
+  copy-roomless buffer l = ap (answered buffer) (step _ _ list (stop _ _ (halt _ _ _ _ (lt-ltb (length buffer) (length (copyBytes es)) l))))
 
-  pub delivered-is : (buffer : List ℕ) → length (copyBytes es) ≤ length buffer → delivered (copy orders tape buffer) ≡ copyBytes es
+  pub delivered-is : (buffer : List ℕ) → length (copyBytes es) ≤ length buffer → delivered (copy sheetBytes recordingBytes buffer) ≡ copyBytes es
   delivered-is buffer l = ap delivered (copy-is buffer l) ∙ take-sets buffer (copyBytes es) l
 
-  pub valid-list : Bytes tape → All Valid (copyMessages [] es)
+  pub valid-list : Bytes recordingBytes → All Valid (copyMessages [] es)
   unfolding releasedOf
   valid-list b =
       let (rs, s, e) = stepped _ _ list in
       let (ms, passes, e) = stepped _ _ e in
-      subst (λ (l : List Entry). All Valid (copyMessages [] l)) (good-inj e) (valid-released rs tape ms b passes)
+      subst (λ (l : List Entry). All Valid (copyMessages [] l)) (good-inj e) (valid-released rs recordingBytes ms b passes)
 
 -- equal copies, with room for both: equal released lists
-pub same-list : (orders orders′ tape tape′ buffer buffer′ : List ℕ) → Bytes tape → Bytes tape′ → (es es′ : List Entry)
-    → releasedOf orders tape ≡ good es → releasedOf orders′ tape′ ≡ good es′ → length (copyBytes es) ≤ length buffer → length (copyBytes es′) ≤ length buffer′
-    → delivered (copy orders tape buffer) ≡ delivered (copy orders′ tape′ buffer′) → es ≡ es′
+pub same-list : (sheetBytes sheetBytes′ recordingBytes recordingBytes′ buffer buffer′ : List ℕ) → Bytes recordingBytes → Bytes recordingBytes′ → (es es′ : List Entry)
+    → releasedOf sheetBytes recordingBytes ≡ good es → releasedOf sheetBytes′ recordingBytes′ ≡ good es′ → length (copyBytes es) ≤ length buffer → length (copyBytes es′) ≤ length buffer′
+    → delivered (copy sheetBytes recordingBytes buffer) ≡ delivered (copy sheetBytes′ recordingBytes′ buffer′) → es ≡ es′
 unfolding copyBytes
-same-list orders orders′ tape tape′ buffer buffer′ b b′ es es′ r r′ l l′ e =
-    let q : copyBytes es ≡ copyBytes es′ = sym (delivered-is orders tape es r buffer l) ∙ e ∙ delivered-is orders′ tape′ es′ r′ buffer′ l′ in
-    let a = all-written-read (valid-list orders tape es r b) 0 in
-    let a′ = all-written-read (valid-list orders′ tape′ es′ r′ b′) 0 in
+same-list sheetBytes sheetBytes′ recordingBytes recordingBytes′ buffer buffer′ b b′ es es′ r r′ l l′ e =
+    let q : copyBytes es ≡ copyBytes es′ = sym (delivered-is sheetBytes recordingBytes es r buffer l) ∙ e ∙ delivered-is sheetBytes′ recordingBytes′ es′ r′ buffer′ l′ in
+    let a = all-written-read (valid-list sheetBytes recordingBytes es r b) 0 in
+    let a′ = all-written-read (valid-list sheetBytes′ recordingBytes′ es′ r′ b′) 0 in
     stamped-injective es es′ (good-inj (sym a ∙ ap (items message 0 0) q ∙ a′))
 
 -- the copy is read as the released list's messages
-pub copy-read : (orders tape buffer : List ℕ) (es : List Entry) → Bytes tape → releasedOf orders tape ≡ good es → length (copyBytes es) ≤ length buffer
-    → items message 0 0 (delivered (copy orders tape buffer)) ≡ good (copyMessages [] es)
+pub copy-read : (sheetBytes recordingBytes buffer : List ℕ) (es : List Entry) → Bytes recordingBytes → releasedOf sheetBytes recordingBytes ≡ good es → length (copyBytes es) ≤ length buffer
+    → items message 0 0 (delivered (copy sheetBytes recordingBytes buffer)) ≡ good (copyMessages [] es)
 unfolding copyBytes
-copy-read orders tape buffer es b r l =
-    ap (items message 0 0) (delivered-is orders tape es r buffer l) ∙ all-written-read (valid-list orders tape es r b) 0
+copy-read sheetBytes recordingBytes buffer es b r l =
+    ap (items message 0 0) (delivered-is sheetBytes recordingBytes es r buffer l) ∙ all-written-read (valid-list sheetBytes recordingBytes es r b) 0
 
 -- each of those is plain: bits 3, 2 and 1 are all that is listed of the flags
 plain-stamp : (n : ℕ) (e : Entry) → e .flags % 2 ≡ 0 → e .flags < 16 → Plain (copyMessage n e)

@@ -48,12 +48,6 @@ unfoldable pub randomized : ℕ → List ℕ → List ℕ
 randomized k [] = []
 randomized k (x ∷ s) = (x xor sequenceByte k) ∷ randomized (suc k) s
 
--- a buffer randomized, byte k with sequence byte k
-unfoldable pub randomizing : List ℕ → Outcome (List ℕ)
-randomizing s = do
-  notLarge s
-  good (randomized 0 s)
-
 -- what a burst begins with
 abbrev pub marker : List ℕ
 marker = 0x03 ∷ 0x47 ∷ 0x76 ∷ 0xC7 ∷ 0x27 ∷ 0x28 ∷ 0x95 ∷ 0xB0 ∷ []
@@ -93,8 +87,9 @@ unfoldable pub randomizedAnswer : List ℕ → Outcome (List ℕ) → Randomized
 randomizedAnswer buffer (bad n p) = (record { number = n; place = p }, buffer)
 randomizedAnswer buffer (good s) = (record { number = 0; place = 0 }, s)
 
+-- a buffer randomized, byte k with sequence byte k
 unfoldable pub randomizer : List ℕ → Randomized × List ℕ
-randomizer buffer = randomizedAnswer buffer (randomizing buffer)
+randomizer buffer = randomizedAnswer buffer (notLarge buffer >> good (randomized 0 buffer))
 
 pub record Opened : Type 0 where
   pub number : ℕ

@@ -9,7 +9,7 @@ use lib.ListN.{length, getD, take, drop}
 use Rattle.rules.specs.Outcome.{good, bad, PACKAGE}
 use Rattle.rules.specs.Bytes.{Bytes, part, oneIfAny}
 use Rattle.rules.specs.Items.{items, All}
-use Rattle.rules.specs.Packages.{Package, cut, packageOf, Fills}
+use Rattle.rules.specs.Packages.{Package, cut, packageOf, Fills, instant, packageTime}
 use Rattle.rules.specs.Message.{headerBytes, mostBytes, Head, head, payloadStart, payload, recordBits, fragmentBits, standardBit, optionRunLength, Message, message}
 use Rattle.rules.specs.Reading.{optionRun, MessageSpot, messageAt}
 use Rattle.rules.specs.Walk.{PackageSpot, packageAt, dataAt, nextAt, Walks}
@@ -17,9 +17,8 @@ use Rattle.rules.specs.Writer.{write, Draft, accepted, written, writer}
 use Rattle.rules.specs.Clean.{cleanForm, cleaner}
 use Rattle.rules.specs.Valid.{Valid, DraftFits}
 use Rattle.rules.specs.Sheet.{Row}
-use Rattle.rules.specs.Copy.{granted, Entry, idOf, released, count, copyMessage, copyMessages, copyBytes, packagesIn, releasedOf, copy, delivered}
-use Rattle.rules.specs.Burst.{_xor_, bit, sequenceByte, sequenceBytes, randomized, randomizer, opening, opener}
-use Rattle.rules.specs.Table.{Table}
+use Rattle.rules.specs.Copy.{granted, Entry, released, count, copyMessage, copyMessages, copyBytes, packagesIn, releasedOf, copy, delivered}
+use Rattle.rules.specs.Burst.{_xor_, bit, sequenceByte, sequenceBytes, randomized, randomizer, marker, blockSize, opening, opener}
 
 -- ---- Demand 1: a refusal changes no byte of the caller's buffers, and what is written changes none behind it.
 
@@ -132,8 +131,8 @@ pub record InRanges (m : Message) (k : Package) (r : Row) : Type 0 where
   pub message-last : m .id ≤ r .lastMessage
   pub package-first : r .firstPackage ≤ k .id
   pub package-last : k .id ≤ r .lastPackage
-  pub start : r .startSeconds * 1000000000 + r .startNanos ≤ m .seconds * 1000000000 + m .nanos + k .delta
-  pub end : m .seconds * 1000000000 + m .nanos + k .delta ≤ r .endSeconds * 1000000000 + r .endNanos
+  pub start : instant (r .startSeconds) (r .startNanos) ≤ packageTime (m .seconds) (m .nanos) (k .delta)
+  pub end : packageTime (m .seconds) (m .nanos) (k .delta) ≤ instant (r .endSeconds) (r .endNanos)
 
 pub data Some {A : Type 0} (P : A → Type 0) : List A → Type 0 where
   here : {a : A} {l : List A} → P a → Some P (a ∷ l)
@@ -163,11 +162,7 @@ RandomizedByte = (s : List ℕ) (k : ℕ) → k < length s → getD (randomized 
 
 abbrev pub BurstOpened : Type 0
 BurstOpened = (s after : List ℕ) (blocks : ℕ) → opening s ≡ good (blocks, after)
-    → (take 8 after ≡ take 8 s) × (drop 8 after ≡ randomized 0 (drop 8 s)) × (8 + blocks * 768 ≡ length s)
-
--- The numbers to check by, P1 to P12.
-abbrev pub TableHolds : Type 0
-TableHolds = Table
+    → (take (length marker) after ≡ take (length marker) s) × (drop (length marker) after ≡ randomized 0 (drop (length marker) s)) × (length marker + blocks * blockSize ≡ length s)
 
 -- ---- Demand 3: the copy talks about nothing but what was released.
 
@@ -189,7 +184,7 @@ CountsReleased = (sheet recording buffer : List ℕ) (es : List Entry) → relea
 
 -- The sequence number of an entry's message is how many of the entries before it have its message id.
 abbrev pub SequenceCounted : Type 0
-SequenceCounted = (before : List Entry) (e : Entry) → copyMessages [] (before ++ (e ∷ [])) ≡ copyMessages [] before ++ (copyMessage (count (e .id) (map idOf before)) e ∷ [])
+SequenceCounted = (before : List Entry) (e : Entry) → copyMessages [] (before ++ (e ∷ [])) ≡ copyMessages [] before ++ (copyMessage (count (e .id) (map (λ (x : Entry). x .id) before)) e ∷ [])
 
 -- The released list goes message by message: what a message releases depends on no other.
 abbrev pub ReleasedEach : Type 0

@@ -2,13 +2,14 @@
 use Prim.Native.Nat.{ℕ, suc, _+_, _*_, _/_, _%_}
 use mathlib.Core.Bool.{Bool, true, false, _||_}
 use mathlib.Core.List.{List, [], _∷_, map}
-use lib.Dec.{ltb, eqb}
+use lib.Dec.{eqb}
 use lib.ListN.{length, take}
 use lib.Seq.{sets}
-use Rattle.rules.specs.Outcome.{Outcome, good, bad, refuse, _>>_, _>>=_, ROOM}
+use Rattle.rules.specs.Outcome.{Outcome, good, bad, _>>=_}
 use Rattle.rules.specs.Bytes.{join}
 use Rattle.rules.specs.Packages.{Package, packageTime}
 use Rattle.rules.specs.Message.{Message, recording}
+use Rattle.rules.specs.Buffer.{fitted}
 use Rattle.rules.specs.Writer.{write}
 use Rattle.rules.specs.Sheet.{Row, sheet, grants}
 
@@ -28,9 +29,6 @@ pub record Entry : Type 0 where
   pub nanos : ℕ
   pub flags : ℕ
   pub packages : List Package
-
-abbrev pub idOf : Entry → ℕ
-idOf e = e .id
 
 -- the granted ones of the packages of m, in order
 unfoldable pub grantedPackages : List Row → Message → List Package → List Package
@@ -52,7 +50,7 @@ unfoldable pub count : ℕ → List ℕ → ℕ
 count x [] = 0
 count x (y ∷ l) = elim (eqb x y) [ true ↦ suc (count x l) | false ↦ count x l ]
 
--- flag bit 6
+-- flag bit 6, playback
 abbrev pub playback : ℕ
 playback = 64
 
@@ -91,9 +89,7 @@ releasedOf sheetBytes recordingBytes = do
 
 -- the released list, if the buffer has room for its copy
 unfoldable pub roomFor : List ℕ → List Entry → Outcome (List Entry)
-roomFor buffer es = do
-  refuse (ltb (length buffer) (length (copyBytes es))) ROOM (length (copyBytes es))
-  good es
+roomFor buffer es = fitted buffer (copyBytes es) >>= λ bytes. good es
 
 -- the answer, and the buffer after it
 unfoldable pub answered : List ℕ → Outcome (List Entry) → Answer × List ℕ

@@ -14,19 +14,15 @@ header s = do
   good (head s, n)
 
 -- the option run as a part of the caller's bytes, and where it begins; empty where the header is refused
-abbrev pub optionRunIn : List ℕ → Outcome (Head × ℕ) → List ℕ
-optionRunIn s (good r) = part headerBytes (headerBytes + r .1) s
-optionRunIn s (bad n p) = []
-
-abbrev pub optionStartIn : Outcome (Head × ℕ) → ℕ
-optionStartIn (good r) = headerBytes
-optionStartIn (bad n p) = 0
+abbrev pub optionPart : List ℕ → Outcome (Head × ℕ) → List ℕ × ℕ
+optionPart s (good r) = (part headerBytes (headerBytes + r .1) s, headerBytes)
+optionPart s (bad n p) = ([], 0)
 
 unfoldable pub optionRun : List ℕ → List ℕ
-optionRun s = optionRunIn s (header s)
+optionRun s = optionPart s (header s) .0
 
 unfoldable pub optionStart : List ℕ → ℕ
-optionStart s = optionStartIn (header s)
+optionStart s = optionPart s (header s) .1
 
 -- a message where it stands in a recording: its header with the option run's length, where payload and next message begin, and how many packages it has
 pub record MessageSpot : Type 0 where

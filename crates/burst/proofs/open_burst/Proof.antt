@@ -38,8 +38,8 @@ is-marked-requires c κs = search needs
 blocks-fit-requires : tie.Need-blocks-fit-requires
 blocks-fit-requires c κs = search needs
 
-no-requires : tie.Need-no-requires
-no-requires c κs = search needs
+refuse-with-requires : tie.Need-refuse-with-requires
+refuse-with-requires c κs = search needs
 
 same-length : tie.Need-same-length
 same-length c = search needs
@@ -47,10 +47,10 @@ same-length c = search needs
 returns : tie.Need-returns
 returns c =
     let s = S (c .before .before) in
-    ap (λ (a : Opened). toldOpened a s) (c .no .ensures) ∙ opener-large s (c .before .if1 .taken)
+    ap (λ (a : Opened). toldOpened a s) (c .refuse-with .ensures) ∙ opener-large s (c .before .if1 .taken)
 
-no-requires-2 : tie.Need-no-requires-2
-no-requires-2 c κs = search needs
+refuse-with-requires-2 : tie.Need-refuse-with-requires-2
+refuse-with-requires-2 c κs = search needs
 
 same-length-2 : tie.Need-same-length-2
 same-length-2 c = search needs
@@ -59,11 +59,11 @@ returns-2 : tie.Need-returns-2
 returns-2 c =
     let d = c .before .before .before in
     let m = d .before .is-marked in
-    ap (λ (a : Opened). toldOpened a (S d)) (c .no2 .ensures)
+    ap (λ (a : Opened). toldOpened a (S d)) (c .refuse-with2 .ensures)
     ∙ opener-marker (S d) (c .before .before .if1 .left) (sym (m .ensures) ∙ not-true (m .result) (c .before .if2 .taken))
 
-no-requires-3 : tie.Need-no-requires-3
-no-requires-3 c κs = search needs
+refuse-with-requires-3 : tie.Need-refuse-with-requires-3
+refuse-with-requires-3 c κs = search needs
 
 same-length-3 : tie.Need-same-length-3
 same-length-3 c = search needs
@@ -73,7 +73,7 @@ returns-3 c =
     let e = c .before .before in
     let d = e .before .before in
     let b = d .blocks-fit in
-    ap (λ (a : Opened). toldOpened a (S d)) (c .no3 .ensures)
+    ap (λ (a : Opened). toldOpened a (S d)) (c .refuse-with3 .ensures)
     ∙ opener-blocks (S d) (e .before .if1 .left) (begins e) (sym (b .ensures) ∙ not-true (b .result) (c .before .if3 .taken))
 
 sub-randomize-all : tie.Need-sub-randomize-all
@@ -107,13 +107,13 @@ open-burst-spec =
     (tie.spec
     is-marked-requires
     blocks-fit-requires
-    no-requires
+    refuse-with-requires
     same-length
     returns
-    no-requires-2
+    refuse-with-requires-2
     same-length-2
     returns-2
-    no-requires-3
+    refuse-with-requires-3
     same-length-3
     returns-3
     sub-randomize-all

@@ -6,7 +6,7 @@ use native.Mathlib.Omega.{arith}
 use borrow.Author.Needs.{needs}
 use Rattle.rules.specs.Outcome.{good}
 use Rattle.rules.specs.Bytes.{Bytes}
-use Rattle.message.specs.Answers.{spotTold, toldMessage}
+use Rattle.message.specs.Answers.{spotOfMessage, toldMessage}
 use Rattle.rules.specs.Reading.{MessageSpot, messageAt}
 use Rattle.compose.proofs.Cleaning.{Read, reads, clean-refused, clean-fits, clean-finished}
 use Rattle.compose.proofs.clean.Statement.{statement}
@@ -17,7 +17,7 @@ abbrev S : tie.After-m → List ℕ
 S c = c .before .before .before .before .before .args .s .now
 
 abbrev K : tie.After-m → MessageSpot
-K c = spotTold (c .m .given .0 .0)
+K c = spotOfMessage (c .m .given .0 .0)
 
 bytes : (c : tie.After-m) → Bytes (S c)
 bytes c = record { below = λ k. omega (arith, c .before .before .before .before .shared-slice-known .given k) }
