@@ -19,7 +19,7 @@ module _ (b : List ℕ) (k : ℕ) (r : Row) where
   abbrev four : List ℕ
   four = set (set (set (set b k (r .«first_mdid» .0)) (k + 1) (r .«last_mdid» .0)) (k + 2) (r .«first_pdid» .0)) (k + 3) (r .«last_pdid» .0)
 
-  pub stored : set (set (set (set four (k + 4) (r .start .sec)) (k + 5) (r .start .ns)) (k + 6) (r .end .sec)) (k + 7) (r .end .ns) ≡ sets b k (rowValues (rowIn r))
+  pub stored : set (set (set (set four (k + 4) (r .start .seconds)) (k + 5) (r .start .nanos)) (k + 6) (r .end .seconds)) (k + 7) (r .end .nanos) ≡ sets b k (rowValues (rowIn r))
   stored =
       let b1 : k + 1 ≡ suc k = omega arith in
       let b2 : k + 2 ≡ suc (suc k) = omega arith in

@@ -178,10 +178,10 @@ fn put_row(values: &mut [u64; 258], i: usize, row: Row)
     values[at + 1] = row.last_mdid.0 as u64;
     values[at + 2] = row.first_pdid.0 as u64;
     values[at + 3] = row.last_pdid.0 as u64;
-    values[at + 4] = start.sec as u64;
-    values[at + 5] = start.ns as u64;
-    values[at + 6] = end.sec as u64;
-    values[at + 7] = end.ns as u64;
+    values[at + 4] = start.seconds as u64;
+    values[at + 5] = start.nanos as u64;
+    values[at + 6] = end.seconds as u64;
+    values[at + 7] = end.nanos as u64;
 }
 
 fn put_rows(values: &mut [u64; 258], rows: [Row; 32])
@@ -225,7 +225,7 @@ pub extern "C" fn hibernaxo_copy(
     out: &mut [u8],
     values: &mut [u64; 4],
 ) -> u32
-    ensures { λ r. ⌜ (r, now (values .exit), now (out .exit)) ≡ copyTold (copy (now (sheet .entry)) (now (recording .entry)) (now (out .entry))) ⌝ }
+    ensures { λ r. ⌜ (r, now (values .exit), now (out .exit)) ≡ copyTold (copy (now (recording .entry)) (now (sheet .entry)) (now (out .entry))) ⌝ }
 {
     match release::copy(recording, sheet, out) {
         Copied::Written(t) => {

@@ -40,18 +40,18 @@ entryBytes h n [] = []
 entryBytes h n (p ∷ ps) = headBytes h n (24 + length (payloadOf (p ∷ ps))) ++ payloadOf (p ∷ ps)
 
 -- a message that was read
-pub record Met (tape : List ℕ) (k : ℕ) (m : Message) : Type 0 where
+pub record Met (recordingBytes : List ℕ) (k : ℕ) (m : Message) : Type 0 where
   pub r : ℕ × List (List ℕ)
-  pub read : checksOneToTen k (drop k tape) (head (drop k tape)) ≡ good r
-  pub flags : head (drop k tape) .flags ≡ m .header .flags
-  pub id : head (drop k tape) .id ≡ m .header .id .0
-  pub seconds : head (drop k tape) .seconds ≡ m .header .seconds
-  pub nanos : head (drop k tape) .nanos ≡ m .header .nanos
-  pub payload : k + payloadStart (head (drop k tape)) ≡ m .payload
-  pub next : k + head (drop k tape) .size ≡ m .next
+  pub read : checksOneToTen k (drop k recordingBytes) (head (drop k recordingBytes)) ≡ good r
+  pub flags : head (drop k recordingBytes) .flags ≡ m .header .flags
+  pub id : head (drop k recordingBytes) .id ≡ m .header .id .0
+  pub seconds : head (drop k recordingBytes) .seconds ≡ m .header .seconds
+  pub nanos : head (drop k recordingBytes) .nanos ≡ m .header .nanos
+  pub payload : k + payloadStart (head (drop k recordingBytes)) ≡ m .payload
+  pub next : k + head (drop k recordingBytes) .size ≡ m .next
 
-module _ (tape : List ℕ) (k : ℕ) where
-  pub met : (m : Message) → toldMessage (M.Message m) ≡ messageAt tape k → Met tape k m
+module _ (recordingBytes : List ℕ) (k : ℕ) where
+  pub met : (m : Message) → toldMessage (M.Message m) ≡ messageAt recordingBytes k → Met recordingBytes k m
   unfolding messageAt messageHere messageSpot
   met m e =
       let (large, g) = passed _ _ _ _ (sym e) in
@@ -69,10 +69,10 @@ module _ (tape : List ℕ) (k : ℕ) where
       }
 
   -- a message that is refused
-  pub no-message : length tape ≤ 65536 → (f : Refusal) → toldMessage (M.Refused f) ≡ messageAt tape k → message k (drop k tape) ≡ bad (numberOf (f .why)) (f .place)
+  pub no-message : length recordingBytes ≤ 65536 → (f : Refusal) → toldMessage (M.Refused f) ≡ messageAt recordingBytes k → message k (drop k recordingBytes) ≡ bad (numberOf (f .why)) (f .place)
   unfolding messageAt messageHere message
   no-message l f e =
-      let q = sym (pass _ _ _ _ (le-ltb 65536 (length tape) l) refl) ∙ sym e in
+      let q = sym (pass _ _ _ _ (le-ltb 65536 (length recordingBytes) l) refl) ∙ sym e in
       ⊎-elim (λ b. stop _ _ b) (λ w. absurd (good≢bad (sym (w .2)))) (refused-step _ _ q)
 
 -- what a grant depends on
@@ -96,12 +96,12 @@ flag-bits f =
     let c : (f / 64 % 2 * 32 + f / 2 % 8) % 8 ≡ f / 2 % 8 = omega arith in
     rw (a, b, c)
 
-module _ (tape : List ℕ) (k : ℕ) (m : Message) (f : Met tape k m) where
+module _ (recordingBytes : List ℕ) (k : ℕ) (m : Message) (f : Met recordingBytes k m) where
   abbrev t : List ℕ
-  t = drop k tape
+  t = drop k recordingBytes
 
   abbrev run : List ℕ
-  run = take (m .next - m .payload) (drop (m .payload) tape)
+  run = take (m .next - m .payload) (drop (m .payload) recordingBytes)
 
   -- the record of the message
   abbrev pub it : messages.Message
@@ -117,14 +117,14 @@ module _ (tape : List ℕ) (k : ℕ) (m : Message) (f : Met tape k m) where
   pub order : m .payload ≤ m .next
   order = omega (arith, f .payload, f .next, it-passes .header .least)
 
-  pub inside : m .next ≤ length tape
-  inside = omega (arith, f .next, it-passes .header .most, it-passes .header .long, length-drop k tape)
+  pub inside : m .next ≤ length recordingBytes
+  inside = omega (arith, f .next, it-passes .header .most, it-passes .header .long, length-drop k recordingBytes)
 
   pub behind : k + 24 ≤ m .payload
   behind = omega (arith, f .payload)
 
   pub run-length : length run ≡ m .next - m .payload
-  run-length = length-take-le (m .next - m .payload) (drop (m .payload) tape) (omega (arith, inside, length-drop (m .payload) tape))
+  run-length = length-take-le (m .next - m .payload) (drop (m .payload) recordingBytes) (omega (arith, inside, length-drop (m .payload) recordingBytes))
 
   run-is : run ≡ part (payloadStart (head t)) (head t .size) t
   run-is =
@@ -182,38 +182,38 @@ unfolding packagesIn
 packages-snoc [] e = omega arith
 packages-snoc (d ∷ es) e = omega (arith, packages-snoc es e)
 
-module _ (tape : List ℕ) (k : ℕ) (m : Message) (f : Met tape k m) (rs : List rows.Row) where
+module _ (recordingBytes : List ℕ) (k : ℕ) (m : Message) (f : Met recordingBytes k m) (rs : List rows.Row) where
   -- the totals with what it adds
   pub totals-grown : (es : List Entry) (qs : List rules.Package) (s : Size) → s .bytes ≡ length (payloadOf qs) → s .packages ≡ length qs
-      → withEntry (totals es) s ≡ totals (es ++ withEntryOf (it tape k m f) qs [])
+      → withEntry (totals es) s ≡ totals (es ++ withEntryOf (it recordingBytes k m f) qs [])
   unfolding withEntryOf
   totals-grown es [] s b p = rw (eq-eqb (s .packages) 0 p, append-nil)
   totals-grown es (q ∷ qs) s b p =
       let n : (s .packages ≡ 0 → ⊥) = λ z. omega arith in
       let n′ = count (m .header .id .0) (map idOf es) in
-      let e : length (copyBytes es) + 24 + s .bytes ≡ length (copyBytes (es ++ withEntryOf (it tape k m f) (q ∷ qs) [])) =
-      rw (rendered-grown tape k m f rs es (q ∷ qs))
+      let e : length (copyBytes es) + 24 + s .bytes ≡ length (copyBytes (es ++ withEntryOf (it recordingBytes k m f) (q ∷ qs) [])) =
+      rw (rendered-grown recordingBytes k m f rs es (q ∷ qs))
       (omega (arith, length-append (copyBytes es) (entryBytes (m .header) n′ (q ∷ qs)), entry-length (m .header) n′ q qs)) in
       rw (ne-eqb (s .packages) 0 n, e, packages-snoc, p, length-append)
 
 -- one message more
-module _ (tape : List ℕ) (done : List messages.Message) (k : ℕ) (doing : Doing message tape done k) (l : k < length tape) (m : Message) (f : Met tape k m) where
-  pub one-more : Doing message tape (done ++ (it tape k m f ∷ [])) (m .next)
-  one-more = rw (← f .next) (doing-next message tape done k (it tape k m f) (head (drop k tape) .size) doing l (omega (arith, it-passes tape k m f .header .least)) (it-is tape k m f))
+module _ (recordingBytes : List ℕ) (done : List messages.Message) (k : ℕ) (doing : Doing message recordingBytes done k) (l : k < length recordingBytes) (m : Message) (f : Met recordingBytes k m) where
+  pub one-more : Doing message recordingBytes (done ++ (it recordingBytes k m f ∷ [])) (m .next)
+  one-more = rw (← f .next) (doing-next message recordingBytes done k (it recordingBytes k m f) (head (drop k recordingBytes) .size) doing l (omega (arith, it-passes recordingBytes k m f .header .least)) (it-is recordingBytes k m f))
 
 -- its places are in order
-pub record Spots (tape : List ℕ) (k : ℕ) (m : Message) : Type 0 where
+pub record Spots (recordingBytes : List ℕ) (k : ℕ) (m : Message) : Type 0 where
   pub on : k < m .next
   pub forth : m .payload ≤ m .next
-  pub within : m .next ≤ length tape
-  pub small : length (take (m .next - m .payload) (drop (m .payload) tape)) ≤ 65536
+  pub within : m .next ≤ length recordingBytes
+  pub small : length (take (m .next - m .payload) (drop (m .payload) recordingBytes)) ≤ 65536
 
-pub spots : (tape : List ℕ) → length tape ≤ 65536 → (k : ℕ) (m : Message) → toldMessage (M.Message m) ≡ messageAt tape k → Spots tape k m
-spots tape l k m e =
-    let g = met tape k m e in
+pub spots : (recordingBytes : List ℕ) → length recordingBytes ≤ 65536 → (k : ℕ) (m : Message) → toldMessage (M.Message m) ≡ messageAt recordingBytes k → Spots recordingBytes k m
+spots recordingBytes l k m e =
+    let g = met recordingBytes k m e in
     record {
-      on = omega (arith, order tape k m g, behind tape k m g);
-      forth = order tape k m g;
-      within = inside tape k m g;
-      small = omega (arith, run-length tape k m g, inside tape k m g);
+      on = omega (arith, order recordingBytes k m g, behind recordingBytes k m g);
+      forth = order recordingBytes k m g;
+      within = inside recordingBytes k m g;
+      small = omega (arith, run-length recordingBytes k m g, inside recordingBytes k m g);
     }

@@ -37,51 +37,51 @@ bounded : (t : Totals) (s : Size) (k n : ℕ) → Bounded t k → k + 24 + s .by
 bounded t s k n h a c true = record { small = omega (arith, h .small); few = omega (arith, h .few); fewer = omega (arith, h .fewer) }
 bounded t s k n h a c false = record { small = omega (arith, h .small); few = omega (arith, h .few); fewer = omega (arith, h .fewer) }
 
-pub record Tallying (rs : List rows.Row) (tape : List ℕ) (t : Totals) (k : ℕ) : Type 0 where
+pub record Tallying (rs : List rows.Row) (recordingBytes : List ℕ) (t : Totals) (k : ℕ) : Type 0 where
   pub done : List messages.Message
-  pub doing : Doing message tape done k
-  pub inside : k ≤ length tape
+  pub doing : Doing message recordingBytes done k
+  pub inside : k ≤ length recordingBytes
   pub bounds : Bounded t k
   pub so-far : t ≡ totals (released rs done)
 
-module _ (rs : List rows.Row) (tape : List ℕ) (short : length tape ≤ 65536) where
-  pub tally-start : Tallying rs tape (record { bytes = 0; messages = 0; packages = 0 }) 0
+module _ (rs : List rows.Row) (recordingBytes : List ℕ) (short : length recordingBytes ≤ 65536) where
+  pub tally-start : Tallying rs recordingBytes (record { bytes = 0; messages = 0; packages = 0 }) 0
   unfolding released copyBytes copyMessages packagesIn
-  tally-start = record { done = []; doing = doing-start message tape; inside = omega arith; bounds = record { small = omega arith; few = omega arith; fewer = omega arith }; so-far = refl }
+  tally-start = record { done = []; doing = doing-start message recordingBytes; inside = omega arith; bounds = record { small = omega arith; few = omega arith; fewer = omega arith }; so-far = refl }
 
-  module _ (t : Totals) (k : ℕ) (inv : Tallying rs tape t k) where
-    pub tally-ended : length tape ≤ k → toldMeasure (Measure.Fits t) ≡ measured rs tape
+  module _ (t : Totals) (k : ℕ) (inv : Tallying rs recordingBytes t k) where
+    pub tally-ended : length recordingBytes ≤ k → toldMeasure (Measure.Fits t) ≡ measured rs recordingBytes
     unfolding measured recording
     tally-ended l =
-        let e : recording tape ≡ good (inv .done) = pass _ _ _ _ (le-ltb 65536 (length tape) short) (doing-end message tape (inv .done) k (inv .doing) l) in
+        let e : recording recordingBytes ≡ good (inv .done) = pass _ _ _ _ (le-ltb 65536 (length recordingBytes) short) (doing-end message recordingBytes (inv .done) k (inv .doing) l) in
         sym (step _ _ e (rw (← inv .so-far)))
 
-    module _ (l : k < length tape) where
-      pub tally-refused : (f : Refusal) → toldMessage (M.Refused f) ≡ messageAt tape k → toldMeasure (Measure.Refused f) ≡ measured rs tape
+    module _ (l : k < length recordingBytes) where
+      pub tally-refused : (f : Refusal) → toldMessage (M.Refused f) ≡ messageAt recordingBytes k → toldMeasure (Measure.Refused f) ≡ measured rs recordingBytes
       unfolding measured recording
       tally-refused f e =
-          let b : recording tape ≡ bad (numberOf (f .why)) (f .place) = pass _ _ _ _ (le-ltb 65536 (length tape) short)
-          (doing-bad message tape (inv .done) k (inv .doing) l (no-message tape k short f e)) in
+          let b : recording recordingBytes ≡ bad (numberOf (f .why)) (f .place) = pass _ _ _ _ (le-ltb 65536 (length recordingBytes) short)
+          (doing-bad message recordingBytes (inv .done) k (inv .doing) l (no-message recordingBytes k short f e)) in
           sym (stop _ _ b)
 
-      module _ (m : Message) (e : toldMessage (M.Message m) ≡ messageAt tape k) where
-        abbrev g : Met tape k m
-        g = met tape k m e
+      module _ (m : Message) (e : toldMessage (M.Message m) ≡ messageAt recordingBytes k) where
+        abbrev g : Met recordingBytes k m
+        g = met recordingBytes k m e
 
-        pub tally-next : (s : Size) → Sized rs (who (m .header)) (take (m .next - m .payload) (drop (m .payload) tape)) s → Tallying rs tape (withEntry t s) (m .next)
+        pub tally-next : (s : Size) → Sized rs (who (m .header)) (take (m .next - m .payload) (drop (m .payload) recordingBytes)) s → Tallying rs recordingBytes (withEntry t s) (m .next)
         tally-next s z =
-            let (b, p) = z .right (g .r .1) (cut-is tape k m g) in
+            let (b, p) = z .right (g .r .1) (cut-is recordingBytes k m g) in
             record {
-              done = inv .done ++ (it tape k m g ∷ []);
-              doing = one-more tape (inv .done) k (inv .doing) l m g;
-              inside = inside tape k m g;
+              done = inv .done ++ (it recordingBytes k m g ∷ []);
+              doing = one-more recordingBytes (inv .done) k (inv .doing) l m g;
+              inside = inside recordingBytes k m g;
               bounds = bounded t s k (m .next) (inv .bounds)
-                  (omega (arith, z .small, run-length tape k m g, order tape k m g, behind tape k m g))
-                  (omega (arith, z .few, run-length tape k m g, order tape k m g, behind tape k m g)) (eqb (s .packages) 0);
-              so-far = rw (inv .so-far, grown tape k m g rs (inv .done)) (totals-grown tape k m g rs (released rs (inv .done)) (ps tape k m g rs) s b p);
+                  (omega (arith, z .small, run-length recordingBytes k m g, order recordingBytes k m g, behind recordingBytes k m g))
+                  (omega (arith, z .few, run-length recordingBytes k m g, order recordingBytes k m g, behind recordingBytes k m g)) (eqb (s .packages) 0);
+              so-far = rw (inv .so-far, grown recordingBytes k m g rs (inv .done)) (totals-grown recordingBytes k m g rs (released rs (inv .done)) (ps recordingBytes k m g rs) s b p);
             }
 
 -- a recording that is too long
-pub large : (rs : List rows.Row) (tape : List ℕ) → 65536 < length tape → toldMeasure (Measure.Refused (record { why = Large; place = 65536 })) ≡ measured rs tape
+pub large : (rs : List rows.Row) (recordingBytes : List ℕ) → 65536 < length recordingBytes → toldMeasure (Measure.Refused (record { why = Large; place = 65536 })) ≡ measured rs recordingBytes
 unfolding measured recording
-large rs tape l = sym (stop _ _ (halt _ _ _ _ (lt-ltb 65536 (length tape) l)))
+large rs recordingBytes l = sym (stop _ _ (halt _ _ _ _ (lt-ltb 65536 (length recordingBytes) l)))

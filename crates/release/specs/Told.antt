@@ -20,8 +20,8 @@ abbrev pub totals : List Entry → Totals
 totals es = record { bytes = length (copyBytes es); messages = length es; packages = packagesIn es }
 
 unfoldable pub measured : List rows.Row → List ℕ → Outcome Totals
-measured rs tape = do
-  ms ← recording tape
+measured rs recordingBytes = do
+  ms ← recording recordingBytes
   good (totals (released rs ms))
 
 abbrev pub toldMeasure : Measured → Outcome Totals
@@ -29,8 +29,8 @@ toldMeasure (Measure.Fits t) = good t
 toldMeasure (Measure.Refused f) = refused f
 
 -- the buffer after, of a recording that passes
-pub record Wrote (rs : List rows.Row) (tape before after : List ℕ) : Type 0 where
-  pub right : (ms : List Message) → recording tape ≡ good ms → after ≡ sets before 0 (copyBytes (released rs ms))
+pub record Wrote (rs : List rows.Row) (recordingBytes before after : List ℕ) : Type 0 where
+  pub right : (ms : List Message) → recording recordingBytes ≡ good ms → after ≡ sets before 0 (copyBytes (released rs ms))
 
 -- an answer's numbers
 abbrev pub numbers : Copied → Answer

@@ -305,7 +305,7 @@ pub enum Copied {
 
 // The copy of a recording under a sheet, into a buffer.
 pub fn copy(recording: &[u8], sheet: &[u8], out: &mut [u8]) -> Copied
-    ensures { λ r. ⌜ told r (now (out .exit)) ≡ copy (now (sheet .entry)) (now (recording .entry)) (now (out .entry)) ⌝ }
+    ensures { λ r. ⌜ told r (now (out .exit)) ≡ copy (now (recording .entry)) (now (sheet .entry)) (now (out .entry)) ⌝ }
 {
     let read = read_sheet(sheet);
     let answer = read.answer;

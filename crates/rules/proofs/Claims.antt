@@ -13,11 +13,12 @@ use Rattle.rules.specs.Writer.{written, writer}
 use Rattle.rules.specs.Clean.{cleanForm, cleaner}
 use Rattle.rules.specs.Copy.{releasedOf, roomFor, answered, copy}
 use Rattle.rules.specs.Burst.{randomized, opening, randomizer, opener}
-use Rattle.rules.specs.Claims.{BuffersKept, WrittenRead, AcceptedValid, ReadValid, ReadWritten, PartsWritten, WriterWrites, CleanerWrites, SpotOfRecord, CleanTwice, CleanExactly, PackageExactly, CutExactly, WalkShowsAll, WalkStays, GrantedExactly, Recurrence, BitPeriod, TableEntry, RandomizedTwice, RandomizedByte, BurstOpened, SameCopies, DifferentCopies, CountsReleased, SequenceCounted, ReleasedEach, CopyRead, CopyPlain, OneOutcome, partsOf}
+use Rattle.rules.specs.Claims.{BuffersKept, WrittenRead, AcceptedValid, ReadValid, ReadWritten, PartsWritten, WriterWrites, CleanerWrites, RoomRefused, SpotOfRecord, SpotExactly, CleanAlone, CleanTwice, CleanExactly, PackageExactly, PackagePlace, CutExactly, WalkShowsAll, WalkStays, GrantedExactly, Recurrence, BitPeriod, TableEntry, RandomizedTwice, RandomizedByte, BurstOpened, SameCopies, DifferentCopies, CountsReleased, SequenceCounted, ReleasedEach, CopyRead, CopyPlain, OneOutcome, partsOf}
 use Rattle.rules.proofs.Outcomes.{pass, step, stepped, good-inj}
-use Rattle.rules.proofs.Kept.{careful-stored, careful-answered, kept-randomized, kept-opened, writes}
+use Rattle.rules.proofs.Kept.{careful-stored, careful-answered, kept-randomized, kept-opened, writes, roomless}
 use Rattle.rules.proofs.Cut as Cut
 use Rattle.rules.proofs.Passed.{passes}
+use Rattle.rules.proofs.Alone as Alone
 use Rattle.rules.proofs.RoundTrip as RoundTrip
 use Rattle.rules.proofs.Writer.{accepts, accepted-valid, parts, parts-written}
 use Rattle.rules.proofs.Refused.{exactly}
@@ -27,9 +28,9 @@ use Rattle.rules.proofs.Sequence as Sequence
 use Rattle.rules.specs.Table.{Table}
 use Rattle.rules.proofs.Table.{table}
 use Rattle.rules.proofs.Growing.{stamped-snoc, released-append}
-use Rattle.rules.proofs.Interference.{copy-is, delivered-is, same-list, copy-read, copy-plain}
-use Rattle.rules.proofs.Spots.{of-record}
-use native.Mathlib.Nat.{zero-add}
+use Rattle.rules.proofs.Interference.{copy-is, copy-roomless, delivered-is, same-list, copy-read, copy-plain}
+use Rattle.rules.proofs.Spots.{of-record, spot-read, spot-refused}
+use native.Mathlib.Nat.{zero-add, add-zero}
 
 -- ---- demand 1
 
@@ -38,7 +39,7 @@ unfolding writer cleaner copy randomizer opener
 buffers-kept = record {
   writer = λ d buffer. careful-stored buffer (written d >>= fitted buffer);
   cleaner = λ s buffer. careful-stored buffer ((notLarge s >> cleanForm s) >>= fitted buffer);
-  copy = λ sheet recording buffer. careful-answered buffer (releasedOf sheet recording >>= roomFor buffer);
+  copy = λ recording sheet buffer. careful-answered buffer (releasedOf recording sheet >>= roomFor buffer);
   randomizer = λ buffer. kept-randomized buffer (notLarge buffer >> good (randomized 0 buffer));
   opener = λ buffer. kept-opened buffer (opening buffer);
 }
@@ -85,8 +86,22 @@ pub cleaner-writes : CleanerWrites
 unfolding cleaner
 cleaner-writes s buffer c h e l = writes buffer c (notLarge s >> cleanForm s) (pass _ _ _ _ (le-ltb 65536 (length s) h) e) l
 
+pub room-refused : RoomRefused
+unfolding writer cleaner
+room-refused = record {
+  writer = λ d buffer c e l. roomless buffer c (written d) e l;
+  cleaner = λ s buffer c h e l. roomless buffer c (notLarge s >> cleanForm s) (pass _ _ _ _ (le-ltb 65536 (length s) h) e) l;
+  copy = λ recording sheet buffer es r l. ap (λ (a : _). a .0) (copy-roomless recording sheet es r buffer l);
+}
+
 pub spot-of-record : SpotOfRecord
 spot-of-record = of-record
+
+pub spot-exactly : SpotExactly
+spot-exactly = record { told = spot-read; refused = spot-refused }
+
+pub clean-alone : CleanAlone
+clean-alone = Alone.clean-alone
 
 pub clean-twice : CleanTwice
 clean-twice = RoundTrip.clean-twice
@@ -96,6 +111,11 @@ clean-exactly = RoundTrip.clean-exactly
 
 pub package-exactly : PackageExactly
 package-exactly p s b = exactly p s b
+
+pub package-place : PackagePlace
+package-place p s n q e =
+    let r = rw add-zero at (Cut.refused 0 p s e) in
+    (r .d, r .place, r .number, r .unfit, (r .pieces, r .fills))
 
 pub cut-exactly : CutExactly
 cut-exactly p s pieces = (λ e. Cut.sound 0 p s e, λ f. Cut.complete f p)
@@ -134,15 +154,15 @@ table-holds = table
 
 pub same-copies : SameCopies
 unfolding copy
-same-copies sheet sheet′ recording recording′ buffer e = ap (λ (o : _). answered buffer (o >>= roomFor buffer)) e
+same-copies recording recording′ sheet sheet′ buffer e = ap (λ (o : _). answered buffer (o >>= roomFor buffer)) e
 
 pub different-copies : DifferentCopies
-different-copies sheet sheet′ recording recording′ buffer buffer′ b b′ es es′ r r′ l l′ differ e =
-    differ (same-list sheet sheet′ recording recording′ buffer buffer′ b b′ es es′ r r′ l l′ e)
+different-copies recording recording′ sheet sheet′ buffer buffer′ b b′ es es′ r r′ l l′ differ e =
+    differ (same-list recording recording′ sheet sheet′ buffer buffer′ b b′ es es′ r r′ l l′ e)
 
 pub counts-released : CountsReleased
-counts-released sheet recording buffer es r l =
-    (ap (λ (a : _). a .0) (copy-is sheet recording es r buffer l), delivered-is sheet recording es r buffer l)
+counts-released recording sheet buffer es r l =
+    (ap (λ (a : _). a .0) (copy-is recording sheet es r buffer l), delivered-is recording sheet es r buffer l)
 
 pub sequence-counted : SequenceCounted
 sequence-counted = stamped-snoc

@@ -31,20 +31,20 @@ valid-released rs recordingBytes ms b e =
     let v = entries rs (w .valid) in
     valid-stamped [] (v .valid) (omega (arith, w .few, v .few))
 
-module _ (sheetBytes recordingBytes : List ℕ) (es : List Entry) (list : releasedOf sheetBytes recordingBytes ≡ good es) where
+module _ (recordingBytes sheetBytes : List ℕ) (es : List Entry) (list : releasedOf recordingBytes sheetBytes ≡ good es) where
   -- with room, the answer is the released list's, and its copy is stored
   pub copy-is : (buffer : List ℕ) → length (copyBytes es) ≤ length buffer
-      → copy sheetBytes recordingBytes buffer ≡ (record { number = 0; place = 0; bytes = length (copyBytes es); messages = length es; packages = packagesIn es }, sets buffer 0 (copyBytes es))
+      → copy recordingBytes sheetBytes buffer ≡ (record { number = 0; place = 0; bytes = length (copyBytes es); messages = length es; packages = packagesIn es }, sets buffer 0 (copyBytes es))
   unfolding copy answered roomFor fitted
   copy-is buffer l = ap (answered buffer) (step _ _ list (step _ _ (pass _ _ _ _ (le-ltb (length buffer) (length (copyBytes es)) l) refl) refl))
 
   -- without, the answer is ROOM with the bytes needed, and the buffer stays
   pub copy-roomless : (buffer : List ℕ) → length buffer < length (copyBytes es)
-      → copy sheetBytes recordingBytes buffer ≡ (record { number = ROOM; place = length (copyBytes es); bytes = 0; messages = 0; packages = 0 }, buffer)
+      → copy recordingBytes sheetBytes buffer ≡ (record { number = ROOM; place = length (copyBytes es); bytes = 0; messages = 0; packages = 0 }, buffer)
   unfolding copy answered roomFor fitted
   copy-roomless buffer l = ap (answered buffer) (step _ _ list (stop _ _ (halt _ _ _ _ (lt-ltb (length buffer) (length (copyBytes es)) l))))
 
-  pub delivered-is : (buffer : List ℕ) → length (copyBytes es) ≤ length buffer → delivered (copy sheetBytes recordingBytes buffer) ≡ copyBytes es
+  pub delivered-is : (buffer : List ℕ) → length (copyBytes es) ≤ length buffer → delivered (copy recordingBytes sheetBytes buffer) ≡ copyBytes es
   delivered-is buffer l = ap delivered (copy-is buffer l) ∙ take-sets buffer (copyBytes es) l
 
   pub valid-list : Bytes recordingBytes → All Valid (copyMessages [] es)
@@ -55,22 +55,22 @@ module _ (sheetBytes recordingBytes : List ℕ) (es : List Entry) (list : releas
       subst (λ (l : List Entry). All Valid (copyMessages [] l)) (good-inj e) (valid-released rs recordingBytes ms b passes)
 
 -- equal copies, with room for both: equal released lists
-pub same-list : (sheetBytes sheetBytes′ recordingBytes recordingBytes′ buffer buffer′ : List ℕ) → Bytes recordingBytes → Bytes recordingBytes′ → (es es′ : List Entry)
-    → releasedOf sheetBytes recordingBytes ≡ good es → releasedOf sheetBytes′ recordingBytes′ ≡ good es′ → length (copyBytes es) ≤ length buffer → length (copyBytes es′) ≤ length buffer′
-    → delivered (copy sheetBytes recordingBytes buffer) ≡ delivered (copy sheetBytes′ recordingBytes′ buffer′) → es ≡ es′
+pub same-list : (recordingBytes recordingBytes′ sheetBytes sheetBytes′ buffer buffer′ : List ℕ) → Bytes recordingBytes → Bytes recordingBytes′ → (es es′ : List Entry)
+    → releasedOf recordingBytes sheetBytes ≡ good es → releasedOf recordingBytes′ sheetBytes′ ≡ good es′ → length (copyBytes es) ≤ length buffer → length (copyBytes es′) ≤ length buffer′
+    → delivered (copy recordingBytes sheetBytes buffer) ≡ delivered (copy recordingBytes′ sheetBytes′ buffer′) → es ≡ es′
 unfolding copyBytes
-same-list sheetBytes sheetBytes′ recordingBytes recordingBytes′ buffer buffer′ b b′ es es′ r r′ l l′ e =
-    let q : copyBytes es ≡ copyBytes es′ = sym (delivered-is sheetBytes recordingBytes es r buffer l) ∙ e ∙ delivered-is sheetBytes′ recordingBytes′ es′ r′ buffer′ l′ in
-    let a = all-written-read (valid-list sheetBytes recordingBytes es r b) 0 in
-    let a′ = all-written-read (valid-list sheetBytes′ recordingBytes′ es′ r′ b′) 0 in
+same-list recordingBytes recordingBytes′ sheetBytes sheetBytes′ buffer buffer′ b b′ es es′ r r′ l l′ e =
+    let q : copyBytes es ≡ copyBytes es′ = sym (delivered-is recordingBytes sheetBytes es r buffer l) ∙ e ∙ delivered-is recordingBytes′ sheetBytes′ es′ r′ buffer′ l′ in
+    let a = all-written-read (valid-list recordingBytes sheetBytes es r b) 0 in
+    let a′ = all-written-read (valid-list recordingBytes′ sheetBytes′ es′ r′ b′) 0 in
     stamped-injective es es′ (good-inj (sym a ∙ ap (items message 0 0) q ∙ a′))
 
 -- the copy is read as the released list's messages
-pub copy-read : (sheetBytes recordingBytes buffer : List ℕ) (es : List Entry) → Bytes recordingBytes → releasedOf sheetBytes recordingBytes ≡ good es → length (copyBytes es) ≤ length buffer
-    → items message 0 0 (delivered (copy sheetBytes recordingBytes buffer)) ≡ good (copyMessages [] es)
+pub copy-read : (recordingBytes sheetBytes buffer : List ℕ) (es : List Entry) → Bytes recordingBytes → releasedOf recordingBytes sheetBytes ≡ good es → length (copyBytes es) ≤ length buffer
+    → items message 0 0 (delivered (copy recordingBytes sheetBytes buffer)) ≡ good (copyMessages [] es)
 unfolding copyBytes
-copy-read sheetBytes recordingBytes buffer es b r l =
-    ap (items message 0 0) (delivered-is sheetBytes recordingBytes es r buffer l) ∙ all-written-read (valid-list sheetBytes recordingBytes es r b) 0
+copy-read recordingBytes sheetBytes buffer es b r l =
+    ap (items message 0 0) (delivered-is recordingBytes sheetBytes es r buffer l) ∙ all-written-read (valid-list recordingBytes sheetBytes es r b) 0
 
 -- each of those is plain: bits 3, 2 and 1 are all that is listed of the flags
 plain-stamp : (n : ℕ) (e : Entry) → e .flags % 2 ≡ 0 → e .flags < 16 → Plain (copyMessage n e)

@@ -1,18 +1,18 @@
 -- A refusal leaves a lent buffer as it was, and what is stored leaves what is behind it.
-use Prim.Native.Nat.{ℕ, suc, _+_, _≤_}
+use Prim.Native.Nat.{ℕ, suc, _+_, _≤_, _<_}
 use mathlib.Core.Path.{_≡_, refl, ap, _∙_}
 use mathlib.Core.List.{List, [], _∷_}
 use native.Mathlib.Nat.{zero-add, add-suc, suc-add}
 use native.Mathlib.Omega.{arith}
-use borrow.Author.Tests.{le-ltb}
+use borrow.Author.Tests.{le-ltb, lt-ltb}
 use lib.ListN.{length, take, drop, set}
 use lib.Seq.{sets, sets-eq, length-sets, drop-set-lt, take-append-seam}
-use Rattle.rules.specs.Outcome.{Outcome, good, bad, _>>=_}
+use Rattle.rules.specs.Outcome.{Outcome, good, bad, _>>=_, ROOM}
 use Rattle.rules.specs.Buffer.{Written, fitted, stored}
 use Rattle.rules.specs.Copy.{Entry, copyBytes, answered}
 use Rattle.rules.specs.Burst.{randomizedAnswer, openedAnswer}
 use Rattle.rules.specs.Claims.{Careful}
-use Rattle.rules.proofs.Outcomes.{pass, step}
+use Rattle.rules.proofs.Outcomes.{pass, halt, step}
 
 drop-sets : (s b : List ℕ) (i : ℕ) → drop (i + length s) (sets b i s) ≡ drop (i + length s) b
 drop-sets [] b i = refl
@@ -50,6 +50,11 @@ kept-opened b (bad n p) h = refl
 -- a stored list is read back from the buffer
 pub take-sets : (b r : List ℕ) → length r ≤ length b → take (length r) (sets b 0 r) ≡ r
 take-sets b r l = rw (sets-eq r b 0 (omega arith), take-append-seam)
+
+-- an outcome without room for it is refused
+pub roomless : (b c : List ℕ) (o : Outcome (List ℕ)) → o ≡ good c → length b < length c → stored b (o >>= fitted b) .0 ≡ record { number = ROOM; place = length c; bytes = 0 }
+unfolding stored fitted
+roomless b c o e l = ap (λ (r : Outcome (List ℕ)). stored b r .0) (step _ _ e (halt _ _ _ _ (lt-ltb (length b) (length c) l)))
 
 -- an outcome with room for it is stored
 pub writes : (b c : List ℕ) (o : Outcome (List ℕ)) → o ≡ good c → length c ≤ length b

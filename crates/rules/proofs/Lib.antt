@@ -9,6 +9,7 @@ pub mod Pieces
 pub mod Run
 pub mod Again
 pub mod Passed
+pub mod Alone
 pub mod Cleaned
 pub mod Valids
 pub mod RoundTrip

@@ -30,7 +30,7 @@ module _ (p : ℕ) (s : List ℕ) (b : PassesToNine p s) where
 
   found : ((cs : List (List ℕ)) → Fills cs (payload s (head s)) → ⊥) → (o : Outcome (List (List ℕ))) → cut (p + payloadStart (head s)) (payload s (head s)) ≡ o → (q : ℕ) × (message p s ≡ bad PACKAGE q)
   found no-cut (good cs) e = absurd (no-cut cs (sound 0 _ (payload s (head s)) e))
-  found no-cut (bad n q) e = (q, rw (refused 0 _ (payload s (head s)) e) at (unmade n q e))
+  found no-cut (bad n q) e = (q, rw (refused 0 _ (payload s (head s)) e .number) at (unmade n q e))
 
   pub exactly : ((q : ℕ) × (message p s ≡ bad PACKAGE q)) ↔ ((cs : List (List ℕ)) → Fills cs (payload s (head s)) → ⊥)
   exactly = (λ r cs f. good≢bad (sym (r .1) ∙ made cs (complete f _)), λ no-cut. found no-cut (cut (p + payloadStart (head s)) (payload s (head s))) refl)

@@ -1,14 +1,16 @@
 -- What is told of a message in a recording is told of its record.
-use Prim.Native.Nat.{ℕ}
+use Prim.Native.Nat.{ℕ, _≤_}
 use mathlib.Core.Path.{_≡_, refl, sym, subst}
+use mathlib.Core.Logic.{⊎-elim}
 use mathlib.Core.List.{List}
-use lib.ListN.{drop, length-map}
-use Rattle.rules.specs.Outcome.{good}
+use borrow.Author.Tests.{le-ltb}
+use lib.ListN.{length, drop, length-map}
+use Rattle.rules.specs.Outcome.{good, bad}
 use Rattle.rules.specs.Packages.{packageOf}
-use Rattle.rules.specs.Message.{head, checksOneToTen, recordOf, message}
+use Rattle.rules.specs.Message.{head, checksOneToTen, Message, recordOf, message}
 use Rattle.rules.specs.Reading.{MessageSpot, messageSpot, messageAt}
 use Rattle.rules.specs.Claims.{OfRecord}
-use Rattle.rules.proofs.Outcomes.{step, passed, stepped, good-inj}
+use Rattle.rules.proofs.Outcomes.{pass, step, stop, passed, stepped, refused-step, good-inj, good≢bad}
 
 of-parsed : (s : List ℕ) (p : ℕ) (r : ℕ × List (List ℕ)) → checksOneToTen p (drop p s) (head (drop p s)) ≡ good r → OfRecord s p (messageSpot p (head (drop p s)) r)
 unfolding messageSpot recordOf message
@@ -25,6 +27,18 @@ of-parsed s p r e = record {
   payload = refl;
   next = refl;
 }
+
+-- and what is read, or refused, from its place on is told there
+pub spot-read : (s : List ℕ) (p : ℕ) → length s ≤ 65536 → (m : Message) (n : ℕ) → message p (drop p s) ≡ good (m, n) → (k : MessageSpot) × (messageAt s p ≡ good k)
+unfolding message messageAt
+spot-read s p l m n e =
+    let (r, q, z) = stepped _ _ e in
+    (messageSpot p (head (drop p s)) r, pass _ _ _ _ (le-ltb 65536 (length s) l) (step _ _ q refl))
+
+pub spot-refused : (s : List ℕ) (p : ℕ) → length s ≤ 65536 → (n q : ℕ) → message p (drop p s) ≡ bad n q → messageAt s p ≡ bad n q
+unfolding message messageAt
+spot-refused s p l n q e =
+    ⊎-elim (λ b. pass _ _ _ _ (le-ltb 65536 (length s) l) (stop _ _ b)) (λ w. absurd (good≢bad (sym (w .2)))) (refused-step _ _ e)
 
 pub of-record : (s : List ℕ) (p : ℕ) (k : MessageSpot) → messageAt s p ≡ good k → OfRecord s p k
 unfolding messageAt

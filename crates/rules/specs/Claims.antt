@@ -2,14 +2,14 @@
 use Prim.Native.Nat.{ℕ, _+_, _*_, _/_, _%_, _≤_, _<_}
 use mathlib.Core.Path.{_≡_}
 use mathlib.Core.Logic.{_↔_}
-use mathlib.Core.Bool.{true}
+use mathlib.Core.Bool.{true, false}
 use mathlib.Core.List.{List, [], _∷_, _++_, map}
 use mathlib.Core.Option.{some}
 use lib.ListN.{length, getD, take, drop}
-use Rattle.rules.specs.Outcome.{good, bad, PACKAGE}
+use Rattle.rules.specs.Outcome.{good, bad, PACKAGE, ROOM}
 use Rattle.rules.specs.Bytes.{Bytes, part, oneIfAny}
 use Rattle.rules.specs.Items.{items, All}
-use Rattle.rules.specs.Packages.{Package, cut, packageOf, Fills, instant, packageTime}
+use Rattle.rules.specs.Packages.{Package, packageFits, cut, packageOf, Fills, instant, packageTime}
 use Rattle.rules.specs.Message.{headerBytes, mostBytes, Head, head, payloadStart, payload, recordBits, fragmentBits, standardBit, optionRunLength, Message, message}
 use Rattle.rules.specs.Reading.{optionRun, MessageSpot, messageAt}
 use Rattle.rules.specs.Walk.{PackageSpot, packageAt, dataAt, nextAt, Walks}
@@ -31,7 +31,7 @@ pub record Careful (number bytes : ℕ) (buffer after : List ℕ) : Type 0 where
 pub record BuffersKept : Type 0 where
   pub writer : (d : Draft) (buffer : List ℕ) → Careful (writer d buffer .0 .number) (writer d buffer .0 .bytes) buffer (writer d buffer .1)
   pub cleaner : (s buffer : List ℕ) → Careful (cleaner s buffer .0 .number) (cleaner s buffer .0 .bytes) buffer (cleaner s buffer .1)
-  pub copy : (sheet recording buffer : List ℕ) → Careful (copy sheet recording buffer .0 .number) (copy sheet recording buffer .0 .bytes) buffer (copy sheet recording buffer .1)
+  pub copy : (recording sheet buffer : List ℕ) → Careful (copy recording sheet buffer .0 .number) (copy recording sheet buffer .0 .bytes) buffer (copy recording sheet buffer .1)
   pub randomizer : (buffer : List ℕ) → (randomizer buffer .0 .number ≡ 0 → ⊥) → randomizer buffer .1 ≡ buffer
   pub opener : (buffer : List ℕ) → (opener buffer .0 .number ≡ 0 → ⊥) → opener buffer .1 ≡ buffer
 
@@ -76,6 +76,17 @@ abbrev pub CleanerWrites : Type 0
 CleanerWrites = (s buffer c : List ℕ) → length s ≤ mostBytes → cleanForm s ≡ good c → length c ≤ length buffer
     → (cleaner s buffer .0 ≡ record { number = 0; place = 0; bytes = length c }) × (take (length c) (cleaner s buffer .1) ≡ c)
 
+-- Without room they refuse, and so does the copy: ROOM, with the bytes needed as place.
+pub record RoomRefused : Type 0 where
+  pub writer : (d : Draft) (buffer c : List ℕ) → written d ≡ good c → length buffer < length c → writer d buffer .0 ≡ record { number = ROOM; place = length c; bytes = 0 }
+  pub cleaner : (s buffer c : List ℕ) → length s ≤ mostBytes → cleanForm s ≡ good c → length buffer < length c → cleaner s buffer .0 ≡ record { number = ROOM; place = length c; bytes = 0 }
+  pub copy : (recording sheet buffer : List ℕ) (es : List Entry) → releasedOf recording sheet ≡ good es → length buffer < length (copyBytes es)
+      → copy recording sheet buffer .0 ≡ record { number = ROOM; place = length (copyBytes es); bytes = 0; messages = 0; packages = 0 }
+
+-- What follows the message changes nothing of its clean form.
+abbrev pub CleanAlone : Type 0
+CleanAlone = (s behind c : List ℕ) → cleanForm s ≡ good c → cleanForm (s ++ behind) ≡ good c
+
 -- Cleaning twice changes nothing more, whatever follows the message.
 abbrev pub CleanTwice : Type 0
 CleanTwice = (s c behind : List ℕ) → Bytes s → length s ≤ mostBytes → Bytes behind → cleanForm s ≡ good c → cleanForm (c ++ behind) ≡ good c
@@ -102,6 +113,11 @@ pub record OfRecord (s : List ℕ) (p : ℕ) (k : MessageSpot) : Type 0 where
 abbrev pub SpotOfRecord : Type 0
 SpotOfRecord = (s : List ℕ) (p : ℕ) (k : MessageSpot) → messageAt s p ≡ good k → OfRecord s p k
 
+-- A message that is read, or refused, from its place on is told of, or refused, at its place.
+pub record SpotExactly : Type 0 where
+  pub told : (s : List ℕ) (p : ℕ) → length s ≤ mostBytes → (m : Message) (n : ℕ) → message p (drop p s) ≡ good (m, n) → (k : MessageSpot) × (messageAt s p ≡ good k)
+  pub refused : (s : List ℕ) (p : ℕ) → length s ≤ mostBytes → (n q : ℕ) → message p (drop p s) ≡ bad n q → messageAt s p ≡ bad n q
+
 -- A payload is refused as PACKAGE exactly if no cut into packages fills it. The message at the start of s has passed checks 1 to 9.
 pub record PassesToNine (p : ℕ) (s : List ℕ) : Type 0 where
   pub run : ℕ
@@ -116,6 +132,11 @@ PackageExactly = (p : ℕ) (s : List ℕ) → PassesToNine p s
 -- The packages fill the payload, in one way only: a run is cut into these pieces exactly if they fill it.
 abbrev pub CutExactly : Type 0
 CutExactly = (p : ℕ) (s : List ℕ) (pieces : List (List ℕ)) → (cut p s ≡ good pieces) ↔ Fills pieces s
+
+-- The place of that refusal is the first package that its header or the bytes left do not allow: whole packages fill what is before it.
+abbrev pub PackagePlace : Type 0
+PackagePlace = (p : ℕ) (s : List ℕ) (n q : ℕ) → cut p s ≡ bad n q
+    → (d : ℕ) × (q ≡ p + d) × (n ≡ PACKAGE) × (packageFits (drop d s) ≡ false) × ((pieces : List (List ℕ)) × Fills pieces (take d s))
 
 -- A walk shows every package of the cut, in order, and then the end.
 abbrev pub WalkShowsAll : Type 0
@@ -168,19 +189,19 @@ BurstOpened = (s after : List ℕ) (blocks : ℕ) → opening s ≡ good (blocks
 
 -- Equal released lists (or equal refusals in their place) give equal answers, counts, refusals and buffers, whatever else differs in recordings and sheets.
 abbrev pub SameCopies : Type 0
-SameCopies = (sheet sheet′ recording recording′ buffer : List ℕ) → releasedOf sheet recording ≡ releasedOf sheet′ recording′ → copy sheet recording buffer ≡ copy sheet′ recording′ buffer
+SameCopies = (recording recording′ sheet sheet′ buffer : List ℕ) → releasedOf recording sheet ≡ releasedOf recording′ sheet′ → copy recording sheet buffer ≡ copy recording′ sheet′ buffer
 
 -- Released lists that differ, and room for both, give copies that differ.
 abbrev pub DifferentCopies : Type 0
-DifferentCopies = (sheet sheet′ recording recording′ buffer buffer′ : List ℕ) → Bytes recording → Bytes recording′ → (es es′ : List Entry)
-    → releasedOf sheet recording ≡ good es → releasedOf sheet′ recording′ ≡ good es′ → length (copyBytes es) ≤ length buffer → length (copyBytes es′) ≤ length buffer′
-    → (es ≡ es′ → ⊥) → delivered (copy sheet recording buffer) ≡ delivered (copy sheet′ recording′ buffer′) → ⊥
+DifferentCopies = (recording recording′ sheet sheet′ buffer buffer′ : List ℕ) → Bytes recording → Bytes recording′ → (es es′ : List Entry)
+    → releasedOf recording sheet ≡ good es → releasedOf recording′ sheet′ ≡ good es′ → length (copyBytes es) ≤ length buffer → length (copyBytes es′) ≤ length buffer′
+    → (es ≡ es′ → ⊥) → delivered (copy recording sheet buffer) ≡ delivered (copy recording′ sheet′ buffer′) → ⊥
 
 -- With room, the copy is the released list's, and its counts are the released list's lengths.
 abbrev pub CountsReleased : Type 0
-CountsReleased = (sheet recording buffer : List ℕ) (es : List Entry) → releasedOf sheet recording ≡ good es → length (copyBytes es) ≤ length buffer
-    → (copy sheet recording buffer .0 ≡ record { number = 0; place = 0; bytes = length (copyBytes es); messages = length es; packages = packagesIn es })
-    × (delivered (copy sheet recording buffer) ≡ copyBytes es)
+CountsReleased = (recording sheet buffer : List ℕ) (es : List Entry) → releasedOf recording sheet ≡ good es → length (copyBytes es) ≤ length buffer
+    → (copy recording sheet buffer .0 ≡ record { number = 0; place = 0; bytes = length (copyBytes es); messages = length es; packages = packagesIn es })
+    × (delivered (copy recording sheet buffer) ≡ copyBytes es)
 
 -- The sequence number of an entry's message is how many of the entries before it have its message id.
 abbrev pub SequenceCounted : Type 0
@@ -192,8 +213,8 @@ ReleasedEach = (rows : List Row) (ms ns : List Message) → released rows (ms ++
 
 -- The copy is its messages, one behind the other, and is read as such.
 abbrev pub CopyRead : Type 0
-CopyRead = (sheet recording buffer : List ℕ) (es : List Entry) → Bytes recording → releasedOf sheet recording ≡ good es → length (copyBytes es) ≤ length buffer
-    → items message 0 0 (delivered (copy sheet recording buffer)) ≡ good (copyMessages [] es)
+CopyRead = (recording sheet buffer : List ℕ) (es : List Entry) → Bytes recording → releasedOf recording sheet ≡ good es → length (copyBytes es) ≤ length buffer
+    → items message 0 0 (delivered (copy recording sheet buffer)) ≡ good (copyMessages [] es)
 
 -- Each of them has no options, playback set, and end of data not set.
 pub record Plain (m : Message) : Type 0 where

@@ -82,7 +82,7 @@ pub record Answer : Type 0 where
 
 -- the released list of a recording under a sheet, if both pass
 unfoldable pub releasedOf : List ℕ → List ℕ → Outcome (List Entry)
-releasedOf sheetBytes recordingBytes = do
+releasedOf recordingBytes sheetBytes = do
   rs ← sheet sheetBytes
   ms ← recording recordingBytes
   good (released rs ms)
@@ -99,7 +99,7 @@ answered buffer (good es) =
 
 -- the copy of a recording under the bytes of a sheet
 unfoldable pub copy : List ℕ → List ℕ → List ℕ → Answer × List ℕ
-copy sheetBytes recordingBytes buffer = answered buffer (releasedOf sheetBytes recordingBytes >>= roomFor buffer)
+copy recordingBytes sheetBytes buffer = answered buffer (releasedOf recordingBytes sheetBytes >>= roomFor buffer)
 
 -- the copy itself: the buffer's first so many bytes
 abbrev pub delivered : Answer × List ℕ → List ℕ

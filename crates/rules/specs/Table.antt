@@ -42,7 +42,7 @@ abbrev pub refusal : ℕ → ℕ → Answer
 refusal n p = record { number = n; place = p; bytes = 0; messages = 0; packages = 0 }
 
 pub record Table : Type 0 where
-  pub P1 : (buffer : List ℕ) → copy R [] buffer ≡ (refusal 0 0, buffer)
+  pub P1 : (buffer : List ℕ) → copy [] R buffer ≡ (refusal 0 0, buffer)
   pub P2 : (s : List ℕ) → length s ≡ 23 → recording s ≡ bad SHORT 0
   pub P3 : recording (messageWith 0x20000080 0x38 0 0x000D0000) ≡ bad VERSION 0
   pub P4 : recording (messageWith 0x11000080 0x18 0 0x000D0000) ≡ bad LENGTH 0
@@ -66,10 +66,10 @@ pub record Table : Type 0 where
     endNanos = 0;
     spare = 0;
   } ∷ [])
-  pub P10 : copy R M (replicate 44 0xEE) ≡ (
+  pub P10 : copy M R (replicate 44 0xEE) ≡ (
     record { number = 0; place = 0; bytes = 40; messages = 1; packages = 1 },
     words (0x100000C0 ∷ 0x00000007 ∷ 0x00000000 ∷ 0x00000028 ∷ 0x00000064 ∷ 0x00000000 ∷ 0x00000001 ∷ 0x000D0000 ∷ 0x00000000 ∷ 0xAA000000 ∷ 0xEEEEEEEE ∷ []),
   )
-  pub P10-room : copy R M (replicate 39 0xEE) ≡ (refusal ROOM 40, replicate 39 0xEE)
+  pub P10-room : copy M R (replicate 39 0xEE) ≡ (refusal ROOM 40, replicate 39 0xEE)
   pub P11 : packageTime 100 999999999 4294967295 ≡ instant 105 294967294
   pub P12 : map sequenceByte (0 ∷ 1 ∷ 2 ∷ 3 ∷ 4 ∷ 255 ∷ 768 ∷ []) ≡ 0xFF ∷ 0x48 ∷ 0x0E ∷ 0xC0 ∷ 0x9A ∷ 0xFF ∷ 0xC0 ∷ []

@@ -43,19 +43,19 @@ module _ (r : Row) where
   packages-turned a b = rw (le-leb _ _ a, lt-leb _ _ b)
 
   module _ (a : r .«first_mdid» .0 ≤ r .«last_mdid» .0) (b : r .«first_pdid» .0 ≤ r .«last_pdid» .0) where
-    pub start-long : 999999999 < r .start .ns → false ≡ rowFits (rowIn r)
+    pub start-long : 999999999 < r .start .nanos → false ≡ rowFits (rowIn r)
     unfolding rowFits
-    start-long c = rw (le-leb _ _ a, le-leb _ _ b, lt-leb (r .start .ns) 999999999 c)
+    start-long c = rw (le-leb _ _ a, le-leb _ _ b, lt-leb (r .start .nanos) 999999999 c)
 
-    pub end-long : r .start .ns ≤ 999999999 → 999999999 < r .end .ns → false ≡ rowFits (rowIn r)
+    pub end-long : r .start .nanos ≤ 999999999 → 999999999 < r .end .nanos → false ≡ rowFits (rowIn r)
     unfolding rowFits
-    end-long c d = rw (le-leb _ _ a, le-leb _ _ b, le-leb (r .start .ns) 999999999 c, lt-leb (r .end .ns) 999999999 d)
+    end-long c d = rw (le-leb _ _ a, le-leb _ _ b, le-leb (r .start .nanos) 999999999 c, lt-leb (r .end .nanos) 999999999 d)
 
-    pub in-order : r .start .ns ≤ 999999999 → r .end .ns ≤ 999999999
-        → leb (instant (r .start .sec) (r .start .ns)) (instant (r .end .sec) (r .end .ns)) ≡ rowFits (rowIn r)
+    pub in-order : r .start .nanos ≤ 999999999 → r .end .nanos ≤ 999999999
+        → leb (instant (r .start .seconds) (r .start .nanos)) (instant (r .end .seconds) (r .end .nanos)) ≡ rowFits (rowIn r)
     unfolding rowFits
-    in-order c d = rw (le-leb _ _ a, le-leb _ _ b, le-leb (r .start .ns) 999999999 c, le-leb (r .end .ns) 999999999 d)
-        (and-yes (leb (instant (r .start .sec) (r .start .ns)) (instant (r .end .sec) (r .end .ns))))
+    in-order c d = rw (le-leb _ _ a, le-leb _ _ b, le-leb (r .start .nanos) 999999999 c, le-leb (r .end .nanos) 999999999 d)
+        (and-yes (leb (instant (r .start .seconds) (r .start .nanos)) (instant (r .end .seconds) (r .end .nanos))))
 
 -- spare bits are zero
 spared : (r : rules.Row) → (r .spare ≡ 0 → ⊥) → rowFits r ≡ false

@@ -19,8 +19,8 @@ rowBack r = record {
   «last_mdid» = record { 0 = r .lastMessage };
   «first_pdid» = record { 0 = r .firstPackage };
   «last_pdid» = record { 0 = r .lastPackage };
-  start = record { sec = r .startSeconds; ns = r .startNanos };
-  end = record { sec = r .endSeconds; ns = r .endNanos };
+  start = record { seconds = r .startSeconds; nanos = r .startNanos };
+  end = record { seconds = r .endSeconds; nanos = r .endNanos };
 }
 
 rows-back : (l : List Row) → map rowBack (map rowIn l) ≡ l

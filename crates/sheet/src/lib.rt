@@ -15,8 +15,8 @@ use refusal::Why;
 use wire::word_at;
 
 pub struct Time {
-    pub sec: u32,
-    pub ns: u32,
+    pub seconds: u32,
+    pub nanos: u32,
 }
 
 pub struct Row {
@@ -29,10 +29,10 @@ pub struct Row {
 }
 
 // A time as a whole number of nanoseconds.
-fn ns_of(t: Time) -> u64
-    ensures { λ r. ⌜ r ≡ instant (t .sec) (t .ns) ⌝ }
+fn nanos_of(t: Time) -> u64
+    ensures { λ r. ⌜ r ≡ instant (t .seconds) (t .nanos) ⌝ }
 {
-    t.sec as u64 * 1_000_000_000 + t.ns as u64
+    t.seconds as u64 * 1_000_000_000 + t.nanos as u64
 }
 
 // The row in eight words, without its spare bits.
@@ -42,12 +42,12 @@ fn row_at(s: &[u8]) -> Row
     let f = word_at(s, 20);
     let g = word_at(s, 24);
     let start = Time {
-        sec: word_at(s, 16),
-        ns: f / 4,
+        seconds: word_at(s, 16),
+        nanos: f / 4,
     };
     let end = Time {
-        sec: f % 4 * 1073741824 + g / 4,
-        ns: g % 4 * 268435456 + word_at(s, 28) / 16,
+        seconds: f % 4 * 1073741824 + g / 4,
+        nanos: g % 4 * 268435456 + word_at(s, 28) / 16,
     };
     Row {
         first_mdid: Mdid(word_at(s, 0)),
@@ -71,13 +71,13 @@ fn fits(row: Row) -> bool
     }
     let start = row.start;
     let end = row.end;
-    if 999_999_999 < start.ns {
+    if 999_999_999 < start.nanos {
         return false;
     }
-    if 999_999_999 < end.ns {
+    if 999_999_999 < end.nanos {
         return false;
     }
-    ns_of(start) <= ns_of(end)
+    nanos_of(start) <= nanos_of(end)
 }
 
 enum RowRead {
@@ -105,7 +105,10 @@ fn read_row(s: &[u8]) -> RowRead
 fn no_row() -> Row
     ensures { λ r. ⌜ r ≡ noRow ⌝ }
 {
-    let zero = Time { sec: 0, ns: 0 };
+    let zero = Time {
+        seconds: 0,
+        nanos: 0,
+    };
     Row {
         first_mdid: Mdid(0),
         last_mdid: Mdid(0),
@@ -192,11 +195,11 @@ pub fn grants(row: Row, m: Mdid, p: Pdid, t: u64) -> bool
         return false;
     }
     let start = row.start;
-    if t < ns_of(start) {
+    if t < nanos_of(start) {
         return false;
     }
     let end = row.end;
-    t <= ns_of(end)
+    t <= nanos_of(end)
 }
 
 // Whether some row of the sheet grants it.

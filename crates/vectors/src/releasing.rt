@@ -18,8 +18,8 @@ fn row_r() -> [u8; 32] {
 }
 
 fn time(t: Time) {
-    crate::number(t.sec as usize);
-    crate::number(t.ns as usize);
+    crate::number(t.seconds as usize);
+    crate::number(t.nanos as usize);
 }
 
 // Number, place, how many rows, and the first row.
