@@ -13,7 +13,7 @@ use Rattle.rules.specs.Writer.{written, writer}
 use Rattle.rules.specs.Clean.{cleanForm, cleaner}
 use Rattle.rules.specs.Copy.{releasedOf, roomFor, answered, copy}
 use Rattle.rules.specs.Burst.{randomized, opening, randomizer, opener}
-use Rattle.rules.specs.Claims.{BuffersKept, WrittenRead, AcceptedValid, ReadValid, ReadWritten, PartsWritten, WriterWrites, CleanerWrites, RoomRefused, SpotOfRecord, SpotExactly, CleanAlone, CleanTwice, CleanExactly, PackageExactly, PackagePlace, CutExactly, WalkShowsAll, WalkStays, GrantedExactly, Recurrence, BitPeriod, TableEntry, RandomizedTwice, RandomizedByte, BurstOpened, SameCopies, DifferentCopies, CountsReleased, SequenceCounted, ReleasedEach, CopyRead, CopyPlain, OneOutcome, partsOf}
+use Rattle.rules.specs.Claims.{BuffersKept, WrittenRead, AcceptedValid, ReadValid, ReadWritten, PartsWritten, WriterWrites, CleanerWrites, RoomRefused, SpotOfRecord, SpotExactly, CleanAlone, CleanTwice, CleanExactly, PackageExactly, PackagePlace, CutExactly, WalkShowsAll, WalkStays, GrantedExactly, Recurrence, BitPeriod, TableEntry, RandomizedTwice, RandomizedByte, BurstOpened, SameCopies, DifferentCopies, CountsReleased, SequenceCounted, ReleasedEach, CopyRead, CopyNotLonger, CopyPlain, OneOutcome, partsOf}
 use Rattle.rules.proofs.Outcomes.{pass, step, stepped, good-inj}
 use Rattle.rules.proofs.Kept.{careful-stored, careful-answered, kept-randomized, kept-opened, writes, roomless}
 use Rattle.rules.proofs.Cut as Cut
@@ -28,7 +28,7 @@ use Rattle.rules.proofs.Sequence as Sequence
 use Rattle.rules.specs.Table.{Table}
 use Rattle.rules.proofs.Table.{table}
 use Rattle.rules.proofs.Growing.{stamped-snoc, released-append}
-use Rattle.rules.proofs.Interference.{copy-is, copy-roomless, delivered-is, same-list, copy-read, copy-plain}
+use Rattle.rules.proofs.Interference.{copy-is, copy-roomless, delivered-is, same-list, copy-read, copy-short, copy-plain}
 use Rattle.rules.proofs.Spots.{of-record, spot-read, spot-refused}
 use native.Mathlib.Nat.{zero-add, add-zero}
 
@@ -172,6 +172,9 @@ released-each = released-append
 
 pub copy-is-read : CopyRead
 copy-is-read = copy-read
+
+pub copy-not-longer : CopyNotLonger
+copy-not-longer = copy-short
 
 pub copy-is-plain : CopyPlain
 copy-is-plain = copy-plain

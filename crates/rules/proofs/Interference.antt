@@ -1,25 +1,27 @@
 -- The copy depends on recording and sheet by their released list alone, and tells two released lists apart.
 use Prim.Native.Nat.{ℕ, _+_, _/_, _%_, _≤_, _<_}
 use mathlib.Core.Path.{_≡_, refl, ap, sym, subst, _∙_}
-use mathlib.Core.List.{List, [], _∷_}
+use mathlib.Core.List.{List, [], _∷_, map}
 use native.Mathlib.Omega.{arith}
 use borrow.Author.Tests.{le-ltb, lt-ltb, ltb-false}
-use lib.ListN.{length}
+use lib.ListN.{length, length-append}
 use lib.Seq.{sets}
 use Rattle.rules.specs.Outcome.{good, ROOM}
-use Rattle.rules.specs.Bytes.{Bytes}
+use Rattle.rules.specs.Bytes.{Bytes, join}
 use Rattle.rules.specs.Items.{items, All, all-nil, all-cons}
 use Rattle.rules.specs.Message.{Message, message, recording}
 use Rattle.rules.specs.Packages.{Package}
 use Rattle.rules.specs.Sheet.{Row}
 use Rattle.rules.specs.Buffer.{fitted}
+use Rattle.rules.specs.Writer.{write}
 use Rattle.rules.specs.Valid.{Valid}
 use Rattle.rules.specs.Copy.{Entry, listedBits, grantedPackages, withEntryOf, released, count, copyMessage, copyMessages, copyBytes, packagesIn, releasedOf, roomFor, answered, copy, delivered}
 use Rattle.rules.specs.Claims.{Plain}
 use Rattle.rules.proofs.Outcomes.{pass, halt, step, stop, passed, stepped, good-inj}
 use Rattle.rules.proofs.Kept.{take-sets}
 use Rattle.rules.proofs.RoundTrip.{all-written-read}
-use Rattle.rules.proofs.Released.{all-valid, entries, valid-stamped, stamped-injective}
+use Rattle.rules.proofs.Again.{length-write}
+use Rattle.rules.proofs.Released.{bulk, all-valid, entries, valid-stamped, stamped-injective}
 
 -- the copy's messages are valid
 valid-released : (rs : List Row) (recordingBytes : List ℕ) (ms : List Message) → Bytes recordingBytes → recording recordingBytes ≡ good ms → All Valid (copyMessages [] (released rs ms))
@@ -53,6 +55,24 @@ module _ (recordingBytes sheetBytes : List ℕ) (es : List Entry) (list : releas
       let (rs, s, e) = stepped _ _ list in
       let (ms, passes, e) = stepped _ _ e in
       subst (λ (l : List Entry). All Valid (copyMessages [] l)) (good-inj e) (valid-released rs recordingBytes ms b passes)
+
+-- the copy's messages have the entries' bulk
+stamped-bulk : (seen : List ℕ) (es : List Entry) → All Valid (copyMessages seen es) → length (join (map write (copyMessages seen es))) ≡ bulk (λ (e : Entry). e .packages) es
+unfolding copyMessages copyMessage
+stamped-bulk seen [] a = refl
+stamped-bulk seen (e ∷ es) (all-cons {a = m} v a) = rw (length-append, length-write m v [], stamped-bulk (e .id ∷ seen) es a)
+
+pub copy-short : (recordingBytes sheetBytes : List ℕ) (es : List Entry) → Bytes recordingBytes → releasedOf recordingBytes sheetBytes ≡ good es → length (copyBytes es) ≤ length recordingBytes
+unfolding releasedOf recording copyBytes
+copy-short recordingBytes sheetBytes es b list =
+    let (rs, s, e) = stepped _ _ list in
+    let (ms, passes, e) = stepped _ _ e in
+    let (large, read) = passed _ _ _ _ passes in
+    let w = all-valid 0 0 recordingBytes b (ltb-false _ _ large) read in
+    let v = entries rs (w .valid) in
+    let least : bulk (λ (e : Entry). e .packages) (released rs ms) ≤ length recordingBytes = omega (arith, v .small, w .small) in
+    let small : bulk (λ (e : Entry). e .packages) es ≤ length recordingBytes = subst (λ (l : List Entry). bulk (λ (e : Entry). e .packages) l ≤ length recordingBytes) (good-inj e) least in
+    omega (arith, stamped-bulk [] es (valid-list recordingBytes sheetBytes es list b), small)
 
 -- equal copies, with room for both: equal released lists
 pub same-list : (recordingBytes recordingBytes′ sheetBytes sheetBytes′ buffer buffer′ : List ℕ) → Bytes recordingBytes → Bytes recordingBytes′ → (es es′ : List Entry)

@@ -1,5 +1,5 @@
 -- Reading, writing and cleaning agree.
-use Prim.Native.Nat.{ℕ, _-_, _≤_}
+use Prim.Native.Nat.{ℕ, _+_, _-_, _≤_}
 use mathlib.Core.Path.{_≡_, ap, sym, _∙_, subst}
 use mathlib.Core.Logic.{_↔_}
 use mathlib.Core.List.{List, [], _++_, map}
@@ -20,7 +20,7 @@ use Rattle.rules.proofs.Pieces.{length-padded}
 use Rattle.rules.proofs.Again.{message-again, length-write, any-le}
 use Rattle.rules.proofs.Passed.{passes}
 use Rattle.rules.proofs.Cleaned.{write-read}
-use Rattle.rules.proofs.Valids.{valid}
+use Rattle.rules.proofs.Valids.{valid, payload-length}
 
 -- what is written is bytes
 bytes-padded : {s : List ℕ} → Bytes s → Bytes (padded s)
@@ -71,6 +71,15 @@ read-valid p s b l m n e =
     let (r, q, z) = stepped _ _ e in
     let y : recordOf s (head s) r ≡ m = ap (λ (k : Message × ℕ). k .0) (good-inj z) in
     subst Valid y (valid p s r b (passes p s (head s) r q) l)
+
+-- a message that passes takes no fewer bytes than its header and its packages
+pub read-size : (p : ℕ) (s : List ℕ) → Bytes s → (m : Message) (n : ℕ) → message p s ≡ good (m, n) → (24 + length (join (map pieceOf (m .packages))) ≤ n) × (n ≤ length s)
+unfolding message recordOf
+read-size p s b m n e =
+    let (r, q, z) = stepped _ _ e in
+    let w = passes p s (head s) r q in
+    subst (λ (k : Message × ℕ). (24 + length (join (map pieceOf (k .0 .packages))) ≤ k .1) × (k .1 ≤ length s)) (good-inj z)
+    (omega (arith, payload-length p s r b w, w .header .least), w .header .most)
 
 -- what is cleaned is written from the record
 cleaned-written : (s : List ℕ) {c : List ℕ} → Bytes s → length s ≤ 65536 → cleanForm s ≡ good c → (m : Message) × Valid m × (write m ≡ c)

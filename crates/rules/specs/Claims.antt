@@ -80,8 +80,7 @@ CleanerWrites = (s buffer c : List ℕ) → length s ≤ mostBytes → cleanForm
 pub record RoomRefused : Type 0 where
   pub writer : (d : Draft) (buffer c : List ℕ) → written d ≡ good c → length buffer < length c → writer d buffer .0 ≡ record { number = ROOM; place = length c; bytes = 0 }
   pub cleaner : (s buffer c : List ℕ) → length s ≤ mostBytes → cleanForm s ≡ good c → length buffer < length c → cleaner s buffer .0 ≡ record { number = ROOM; place = length c; bytes = 0 }
-  pub copy : (recording sheet buffer : List ℕ) (es : List Entry) → releasedOf recording sheet ≡ good es → length buffer < length (copyBytes es)
-      → copy recording sheet buffer .0 ≡ record { number = ROOM; place = length (copyBytes es); bytes = 0; messages = 0; packages = 0 }
+  pub copy : (recording sheet buffer : List ℕ) (es : List Entry) → releasedOf recording sheet ≡ good es → length buffer < length (copyBytes es) → copy recording sheet buffer .0 ≡ record { number = ROOM; place = length (copyBytes es); bytes = 0; messages = 0; packages = 0 }
 
 -- What follows the message changes nothing of its clean form.
 abbrev pub CleanAlone : Type 0
@@ -216,7 +215,11 @@ abbrev pub CopyRead : Type 0
 CopyRead = (recording sheet buffer : List ℕ) (es : List Entry) → Bytes recording → releasedOf recording sheet ≡ good es → length (copyBytes es) ≤ length buffer
     → items message 0 0 (delivered (copy recording sheet buffer)) ≡ good (copyMessages [] es)
 
--- Each of them has no options, playback set, and end of data not set.
+-- It is never longer than its recording.
+abbrev pub CopyNotLonger : Type 0
+CopyNotLonger = (recording sheet : List ℕ) (es : List Entry) → Bytes recording → releasedOf recording sheet ≡ good es → length (copyBytes es) ≤ length recording
+
+-- Each of its messages has no options, playback set, and end of data not set.
 pub record Plain (m : Message) : Type 0 where
   pub options : m .options ≡ []
   pub playback : m .flags / 64 % 2 ≡ 1
