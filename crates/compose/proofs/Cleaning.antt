@@ -23,7 +23,7 @@ use Rattle.rules.proofs.Valids.{valid, run-length}
 use Rattle.rules.proofs.Writer.{parts}
 use Rattle.compose.specs.Payload.{Cuts, messageOf, sizeOf, sizeOfOutcome, finished, Fit}
 use Rattle.compose.proofs.Answered.{answer, refusing, finishing}
-use Rattle.compose.proofs.Whole.{rendered-length}
+use Rattle.compose.proofs.Whole.{piecesWritten-length}
 
 module _ (s : List ℕ) (r : ℕ × List (List ℕ)) (b : Bytes s) (e : checksOneToTen 0 s (head s) ≡ good r) where
   w : Passed 0 s (head s) r
@@ -86,7 +86,7 @@ module _ (s : List ℕ) (b : Bytes s) (l : length s ≤ 65536) (r : ℕ × List 
         least = w .header .least;
         most = w .header .most;
         payload = payload-size s r b e;
-        small = omega (arith, v .size, rendered-length (fills 0 s r b w));
+        small = omega (arith, v .size, piecesWritten-length (fills 0 s r b w));
         cuts = cleaned-cuts s r b e;
         bytes = pass _ _ _ _ (le-ltb 65536 (length s) l) (step _ _ e (ap good (sym (cleaned-bytes s r b e))));
       }

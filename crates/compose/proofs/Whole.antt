@@ -19,10 +19,10 @@ use Rattle.compose.proofs.Stores.{sets-part}
 use Rattle.compose.proofs.Run.{piece-length}
 
 -- the pieces written again are as long as the run
-pub rendered-length : {cs : List (List ℕ)} {s : List ℕ} → Fills cs s → length (piecesWritten cs) ≡ length s
-rendered-length none = refl
-rendered-length (more {c = c} {cs = cs} {s = s} h r) =
-    omega (arith, length-append (pieceOf (packageOf c)) (piecesWritten cs), length-append c s, piece-length c h, rendered-length r)
+pub piecesWritten-length : {cs : List (List ℕ)} {s : List ℕ} → Fills cs s → length (piecesWritten cs) ≡ length s
+piecesWritten-length none = refl
+piecesWritten-length (more {c = c} {cs = cs} {s = s} h r) =
+    omega (arith, length-append (pieceOf (packageOf c)) (piecesWritten cs), length-append c s, piece-length c h, piecesWritten-length r)
 
 -- 0 for no bytes, 1 for some
 pub any-none : (s : List ℕ) → length s ≡ 0 → oneIfAny s ≡ 0
@@ -69,13 +69,13 @@ unfolding payloadOf messageOf write drafted
 message-stored d b w =
     let f : Fills (w .pieces) (d .packages) = Cut.sound 0 0 (d .packages) (w .cuts) in
     glued (headerOf (wordsOf d) (flagsOf d) (d .id) (d .sequence) (sizeOf d) (d .seconds) (d .nanos)) (padded (d .options)) (payloadOf (cut 0 (d .packages))) b (pad (length (d .options))) refl (length-padded (d .options))
-    ∙ rw (w .cuts, any-filled f, rendered-length f, length-padded (d .options))
+    ∙ rw (w .cuts, any-filled f, piecesWritten-length f, length-padded (d .options))
 
 pub message-length : (d : Draft) → Cuts (d .packages) → length (messageOf d (cut 0 (d .packages))) ≡ sizeOf d
 unfolding messageOf write drafted
 message-length d w =
     let f : Fills (w .pieces) (d .packages) = Cut.sound 0 0 (d .packages) (w .cuts) in
-    rw (w .cuts) (omega (arith, length-append (padded (d .options)) (piecesWritten (w .pieces)), length-padded (d .options), rendered-length f))
+    rw (w .cuts) (omega (arith, length-append (padded (d .options)) (piecesWritten (w .pieces)), length-padded (d .options), piecesWritten-length f))
 
 -- the same where the packages are stored in a part that is lent
 pub whole-stored : (d : Draft) (b : List ℕ) {b₁ b₂ ys : List ℕ} {n f : ℕ} → Cuts (d .packages) → n ≡ pad (length (d .options)) → f ≡ flagsOf d

@@ -4,7 +4,7 @@ use mathlib.Core.Path.{_≡_, refl, ap, _∙_}
 use mathlib.Core.List.{List, [], _∷_, _++_, map, append-nil}
 use native.Mathlib.Numerals.{add-one}
 use native.Mathlib.Omega.{arith}
-use lib.ListN.{length, getD, set, take, drop, replicate}
+use lib.ListN.{length, getD, take, drop, replicate}
 use lib.Seq.{sets, sets-eq, take-suc, length-take-le, drop-length}
 use Rattle.rules.specs.Outcome.{good}
 use Rattle.rules.specs.Bytes.{join}
@@ -14,21 +14,11 @@ use Rattle.sheet.specs.declared.Row.{Row}
 use Rattle.sheet.specs.Rows.{rowIn}
 use Rattle.hibernaxo.specs.Told.{rowValues, sheetTold}
 
--- the eight values of a row, stored one behind the other
-module _ (b : List ℕ) (k : ℕ) (r : Row) where
-  abbrev four : List ℕ
-  four = set (set (set (set b k (r .«first_mdid» .0)) (k + 1) (r .«last_mdid» .0)) (k + 2) (r .«first_pdid» .0)) (k + 3) (r .«last_pdid» .0)
-
-  pub stored : set (set (set (set four (k + 4) (r .start .seconds)) (k + 5) (r .start .nanos)) (k + 6) (r .end .seconds)) (k + 7) (r .end .nanos) ≡ sets b k (rowValues (rowIn r))
-  stored =
-      let b1 : k + 1 ≡ suc k = omega arith in
-      let b2 : k + 2 ≡ suc (suc k) = omega arith in
-      let b3 : k + 3 ≡ suc (suc (suc k)) = omega arith in
-      let b4 : k + 4 ≡ suc (suc (suc (suc k))) = omega arith in
-      let b5 : k + 5 ≡ suc (suc (suc (suc (suc k)))) = omega arith in
-      let b6 : k + 6 ≡ suc (suc (suc (suc (suc (suc k))))) = omega arith in
-      let b7 : k + 7 ≡ suc (suc (suc (suc (suc (suc (suc k)))))) = omega arith in
-      rw (b1, b2, b3, b4, b5, b6, b7)
+-- four pairs of values, stored one behind the other
+pub four-pairs : (v : List ℕ) (k a b c d e f g h : ℕ)
+    → sets (sets (sets (sets v k (a ∷ b ∷ [])) (k + 2) (c ∷ d ∷ [])) (k + 4) (e ∷ f ∷ [])) (k + 6) (g ∷ h ∷ []) ≡ sets v k (a ∷ b ∷ c ∷ d ∷ e ∷ f ∷ g ∷ h ∷ [])
+four-pairs v k a b c d e f g h =
+    rw (sets-sets (a ∷ b ∷ []) (c ∷ d ∷ []) v k, sets-sets (a ∷ b ∷ c ∷ d ∷ []) (e ∷ f ∷ []) v k, sets-sets (a ∷ b ∷ c ∷ d ∷ e ∷ f ∷ []) (g ∷ h ∷ []) v k)
 
 -- the values of rows
 abbrev pub valuesOf : List Row → List ℕ

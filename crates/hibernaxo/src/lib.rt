@@ -14,7 +14,7 @@ use release::Copied;
 use sheet::Row;
 use sheet::SheetAnswer;
 ghost use mathlib.Core.Path.{_≡_};
-ghost use mathlib.Core.List.{map};
+ghost use mathlib.Core.List.{[], _∷_, map};
 ghost use Prim.Native.Nat.{_+_, _*_, _<_};
 ghost use lib.Seq.{sets};
 ghost use Rattle.rules.specs.Bytes.{join};
@@ -166,6 +166,15 @@ pub extern "C" fn hibernaxo_clean(bytes: &[u8], out: &mut [u8], values: &mut [u6
     put_written(a, values)
 }
 
+// Two values from `at` on.
+fn put_two(values: &mut [u64; 258], at: usize, a: u32, b: u32)
+    requires { ⌜ at < 257 ⌝ }
+    ensures { λ _. ⌜ now (values .exit) ≡ sets (now (values .entry)) at (a ∷ b ∷ []) ⌝ }
+{
+    values[at] = a as u64;
+    values[at + 1] = b as u64;
+}
+
 // The eight values of row i, behind the place and the number of rows.
 fn put_row(values: &mut [u64; 258], i: usize, row: Row)
     requires { ⌜ i < 32 ⌝ }
@@ -174,14 +183,10 @@ fn put_row(values: &mut [u64; 258], i: usize, row: Row)
     let at = 2 + 8 * i;
     let start = row.start;
     let end = row.end;
-    values[at] = row.first_mdid.0 as u64;
-    values[at + 1] = row.last_mdid.0 as u64;
-    values[at + 2] = row.first_pdid.0 as u64;
-    values[at + 3] = row.last_pdid.0 as u64;
-    values[at + 4] = start.seconds as u64;
-    values[at + 5] = start.nanos as u64;
-    values[at + 6] = end.seconds as u64;
-    values[at + 7] = end.nanos as u64;
+    put_two(values, at, row.first_mdid.0, row.last_mdid.0);
+    put_two(values, at + 2, row.first_pdid.0, row.last_pdid.0);
+    put_two(values, at + 4, start.seconds, start.nanos);
+    put_two(values, at + 6, end.seconds, end.nanos);
 }
 
 fn put_rows(values: &mut [u64; 258], rows: [Row; 32])

@@ -20,7 +20,7 @@ use Rattle.rules.specs.Copy.{granted, Entry, grantedPackages, withEntryOf, rele
 use Rattle.rules.proofs.Outcomes.{pass, step, stop, passed, stepped, good-inj, good≢bad, refused-step}
 use Rattle.rules.proofs.Cut as Cut
 use Rattle.rules.proofs.Passed.{Passed, passes}
-use Rattle.rules.proofs.Growing.{released-snoc, rendered-snoc}
+use Rattle.rules.proofs.Growing.{released-snoc, copyBytes-snoc}
 use Rattle.rules.proofs.Growing.{idOf}
 use Rattle.rules.proofs.Loops.{Doing, doing-next}
 use Rattle.refusal.specs.declared.Refusal.{Refusal}
@@ -163,10 +163,10 @@ module _ (recordingBytes : List ℕ) (k : ℕ) (m : Message) (f : Met recordingB
     unfolding recordOf
     id-is = f .id
 
-    pub rendered-grown : (es : List Entry) (qs : List rules.Package) → copyBytes (es ++ withEntryOf it qs []) ≡ copyBytes es ++ entryBytes (m .header) (count (m .header .id .0) (map idOf es)) qs
+    pub copyBytes-grown : (es : List Entry) (qs : List rules.Package) → copyBytes (es ++ withEntryOf it qs []) ≡ copyBytes es ++ entryBytes (m .header) (count (m .header .id .0) (map idOf es)) qs
     unfolding withEntryOf entryBytes
-    rendered-grown es [] = rw append-nil (sym (append-nil (copyBytes es)))
-    rendered-grown es (p ∷ qs) = rendered-snoc es _ ∙ ap (λ (s : List ℕ). copyBytes es ++ s) (written (count (it .id) (map idOf es)) p qs ∙ rw id-is)
+    copyBytes-grown es [] = rw append-nil (sym (append-nil (copyBytes es)))
+    copyBytes-grown es (p ∷ qs) = copyBytes-snoc es _ ∙ ap (λ (s : List ℕ). copyBytes es ++ s) (written (count (it .id) (map idOf es)) p qs ∙ rw id-is)
 
 -- a message of the copy has its header, and one package at least
 pub entry-length : (h : Header) (n : ℕ) (p : rules.Package) (qs : List rules.Package) → length (entryBytes h n (p ∷ qs)) ≡ 24 + length (payloadOf (p ∷ qs))
@@ -192,7 +192,7 @@ module _ (recordingBytes : List ℕ) (k : ℕ) (m : Message) (f : Met recordingB
       let n : (s .packages ≡ 0 → ⊥) = λ z. omega arith in
       let n′ = count (m .header .id .0) (map idOf es) in
       let e : length (copyBytes es) + 24 + s .bytes ≡ length (copyBytes (es ++ withEntryOf (it recordingBytes k m f) (q ∷ qs) [])) =
-      rw (rendered-grown recordingBytes k m f rs es (q ∷ qs))
+      rw (copyBytes-grown recordingBytes k m f rs es (q ∷ qs))
       (omega (arith, length-append (copyBytes es) (entryBytes (m .header) n′ (q ∷ qs)), entry-length (m .header) n′ q qs)) in
       rw (ne-eqb (s .packages) 0 n, e, packages-snoc, p, length-append)
 

@@ -27,7 +27,7 @@ use Rattle.release.specs.Parts.{who, payloadOf, StoredRun, headBytes, Pl
 use Rattle.release.specs.Told.{Wrote}
 use Rattle.release.proofs.Stores.{sets-before}
 use Rattle.release.proofs.Counts.{Counts, counts-start, at-most, number-is, number-few, counts-next}
-use Rattle.release.proofs.Entries.{entryBytes, Met, met, no-message, it, order, inside, behind, run-length, cut-is, ps, id-is, grown, rendered-grown, one-more, entry-length, payload-least}
+use Rattle.release.proofs.Entries.{entryBytes, Met, met, no-message, it, order, inside, behind, run-length, cut-is, ps, id-is, grown, copyBytes-grown, one-more, entry-length, payload-least}
 
 pub record Writing (rs : List rows.Row) (recordingBytes before after ids numbers : List ℕ) (held to k : ℕ) : Type 0 where
   pub done : List messages.Message
@@ -144,7 +144,7 @@ module _ (rs : List rows.Row) (recordingBytes before : List ℕ) (short : length
               one-with [] w h = absurd (h (w .size))
               one-with (q ∷ qs) w h =
                   let bytes = entryBytes (m .header) (count id (map idOf es)) (q ∷ qs) in
-                  let n : copyBytes (es ++ withEntryOf (it recordingBytes k m g) (q ∷ qs) []) ≡ copyBytes es ++ bytes = rendered-grown recordingBytes k m g rs es (q ∷ qs) in
+                  let n : copyBytes (es ++ withEntryOf (it recordingBytes k m g) (q ∷ qs) []) ≡ copyBytes es ++ bytes = copyBytes-grown recordingBytes k m g rs es (q ∷ qs) in
                   let s : map idOf (es ++ withEntryOf (it recordingBytes k m g) (q ∷ qs) []) ≡ map idOf es ++ (id ∷ []) = rw (map-append, id-is recordingBytes k m g rs) in
                   record {
                     done = inv .done ++ (it recordingBytes k m g ∷ []);

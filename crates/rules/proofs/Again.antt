@@ -125,9 +125,9 @@ module _ (m : Message) (v : Valid m) (t : List ℕ) where
       go (x ∷ l) = omega arith
 
   module _ (p : ℕ) where
-    checked-again : checksOneToSix p (write m ++ t) header ≡ good tt
+    checksOneToSix-again : checksOneToSix p (write m ++ t) header ≡ good tt
     unfolding checksOneToSix
-    checked-again =
+    checksOneToSix-again =
         pass _ _ _ _ (le-ltb (length (write m ++ t)) 24 (omega (arith, length-all)))
         (pass _ _ _ _ refl
         (pass _ _ _ _ refl
@@ -141,23 +141,23 @@ module _ (m : Message) (v : Valid m) (t : List ℕ) where
     run-again : optionRunLength p (write m ++ t) header ≡ good (length (m .options))
     unfolding optionRunLength
     run-again =
-        after _ _ checked-again
+        after _ _ checksOneToSix-again
         (rw (words4, options-part (write m ++ t) options payload t body)
         (run-fill 0 0 (p + 24) 0 (m .options) (pad (length (m .options)) - length (m .options)) (omega arith) (omega arith) (v .run)))
 
     cut-again : cut (p + payloadStart header) (part (payloadStart header) (header .size) (write m ++ t)) ≡ good (map pieceOf (m .packages))
     cut-again = rw (words4, payload-part (write m ++ t) options payload t body) (complete (filled (v .packages)) (p + (24 + length options)))
 
-    framed-again : checksEightToTen p (write m ++ t) header ≡ good (map pieceOf (m .packages))
+    checksEightToTen-again : checksEightToTen p (write m ++ t) header ≡ good (map pieceOf (m .packages))
     unfolding checksEightToTen
-    framed-again =
+    checksEightToTen-again =
         pass _ _ _ _ (rw (eq-eqb ((m .flags + oneIfAny (m .packages) * 128) / 16 % 4) 0 (omega (arith, v .flags, any-le))))
         (pass _ _ _ _ (rw (words4, payload-part (write m ++ t) options payload t body, any-pieces, eq-eqb ((m .flags + oneIfAny (m .packages) * 128) / 128 % 2) (oneIfAny (m .packages)) (seven (m .flags) (oneIfAny (m .packages)) any-le (v .flags))))
         cut-again)
 
-    parsed-again : checksOneToTen p (write m ++ t) header ≡ good (length (m .options), map pieceOf (m .packages))
+    checksOneToTen-again : checksOneToTen p (write m ++ t) header ≡ good (length (m .options), map pieceOf (m .packages))
     unfolding checksOneToTen
-    parsed-again = step _ _ run-again (step _ _ framed-again refl)
+    checksOneToTen-again = step _ _ run-again (step _ _ checksEightToTen-again refl)
 
     record-again : recordOf (write m ++ t) header (length (m .options), map pieceOf (m .packages)) ≡ m
     unfolding recordOf
@@ -165,4 +165,4 @@ module _ (m : Message) (v : Valid m) (t : List ℕ) where
 
     pub message-again : message p (write m ++ t) ≡ good (m, length (write m))
     unfolding message
-    message-again = rw head-again (step _ _ parsed-again (rw (record-again, length-write)))
+    message-again = rw head-again (step _ _ checksOneToTen-again (rw (record-again, length-write)))

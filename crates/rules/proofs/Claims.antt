@@ -27,7 +27,7 @@ use Rattle.rules.proofs.Granted.{granted-exactly}
 use Rattle.rules.proofs.Sequence as Sequence
 use Rattle.rules.specs.Table.{Table}
 use Rattle.rules.proofs.Table.{table}
-use Rattle.rules.proofs.Growing.{stamped-snoc, released-append}
+use Rattle.rules.proofs.Growing.{copyMessages-snoc, released-append}
 use Rattle.rules.proofs.Interference.{copy-is, copy-roomless, delivered-is, same-list, copy-read, copy-short, copy-plain}
 use Rattle.rules.proofs.Spots.{of-record, spot-read, spot-refused}
 use native.Mathlib.Nat.{zero-add, add-zero}
@@ -165,7 +165,7 @@ counts-released recording sheet buffer es r l =
     (ap (λ (a : _). a .0) (copy-is recording sheet es r buffer l), delivered-is recording sheet es r buffer l)
 
 pub sequence-counted : SequenceCounted
-sequence-counted = stamped-snoc
+sequence-counted = copyMessages-snoc
 
 pub released-each : ReleasedEach
 released-each = released-append

@@ -27,15 +27,15 @@ map-append f [] m = refl
 map-append f (a ∷ l) m = ap (λ (r : List _). f a ∷ r) (map-append f l m)
 
 -- the released list of more messages
-enter-append : (m : Message) (ps : List Package) (es fs : List Entry) → withEntryOf m ps (es ++ fs) ≡ withEntryOf m ps es ++ fs
+withEntryOf-append : (m : Message) (ps : List Package) (es fs : List Entry) → withEntryOf m ps (es ++ fs) ≡ withEntryOf m ps es ++ fs
 unfolding withEntryOf
-enter-append m [] es fs = refl
-enter-append m (p ∷ ps) es fs = refl
+withEntryOf-append m [] es fs = refl
+withEntryOf-append m (p ∷ ps) es fs = refl
 
 pub released-append : (rs : List Row) (ms ns : List Message) → released rs (ms ++ ns) ≡ released rs ms ++ released rs ns
 unfolding released
 released-append rs [] ns = refl
-released-append rs (m ∷ ms) ns = rw (released-append rs ms ns, enter-append)
+released-append rs (m ∷ ms) ns = rw (released-append rs ms ns, withEntryOf-append)
 
 -- one message more: no entry, or one
 pub released-snoc : (rs : List Row) (ms : List Message) (m : Message) → released rs (ms ++ (m ∷ [])) ≡ released rs ms ++ withEntryOf m (grantedPackages rs m (m .packages)) []
@@ -47,10 +47,10 @@ ids : List Entry → List ℕ → List ℕ
 ids [] seen = seen
 ids (e ∷ es) seen = ids es (e .id ∷ seen)
 
-stamped-append : (seen : List ℕ) (es fs : List Entry) → copyMessages seen (es ++ fs) ≡ copyMessages seen es ++ copyMessages (ids es seen) fs
+copyMessages-append : (seen : List ℕ) (es fs : List Entry) → copyMessages seen (es ++ fs) ≡ copyMessages seen es ++ copyMessages (ids es seen) fs
 unfolding copyMessages ids
-stamped-append seen [] fs = refl
-stamped-append seen (e ∷ es) fs = ap (λ (r : List Message). copyMessage (count (e .id) seen) e ∷ r) (stamped-append (e .id ∷ seen) es fs)
+copyMessages-append seen [] fs = refl
+copyMessages-append seen (e ∷ es) fs = ap (λ (r : List Message). copyMessage (count (e .id) seen) e ∷ r) (copyMessages-append (e .id ∷ seen) es fs)
 
 -- how often an id was seen does not depend on the order
 count-ids : (x : ℕ) (es : List Entry) (seen : List ℕ) → count x (ids es seen) ≡ count x (map idOf es) + count x seen
@@ -64,12 +64,12 @@ count-ids x (e ∷ es) seen = count-ids x es (e .id ∷ seen) ∙ go (eqb x (e .
     go false = refl
 
 -- the message of one entry more, and its copy
-pub stamped-snoc : (es : List Entry) (e : Entry) → copyMessages [] (es ++ (e ∷ [])) ≡ copyMessages [] es ++ (copyMessage (count (e .id) (map idOf es)) e ∷ [])
+pub copyMessages-snoc : (es : List Entry) (e : Entry) → copyMessages [] (es ++ (e ∷ [])) ≡ copyMessages [] es ++ (copyMessage (count (e .id) (map idOf es)) e ∷ [])
 unfolding copyMessages count
-stamped-snoc es e =
+copyMessages-snoc es e =
     let c : count (e .id) (ids es []) ≡ count (e .id) (map idOf es) = count-ids (e .id) es [] ∙ add-zero _ in
-    rw (stamped-append [] es (e ∷ []), c)
+    rw (copyMessages-append [] es (e ∷ []), c)
 
-pub rendered-snoc : (es : List Entry) (e : Entry) → copyBytes (es ++ (e ∷ [])) ≡ copyBytes es ++ write (copyMessage (count (e .id) (map idOf es)) e)
+pub copyBytes-snoc : (es : List Entry) (e : Entry) → copyBytes (es ++ (e ∷ [])) ≡ copyBytes es ++ write (copyMessage (count (e .id) (map idOf es)) e)
 unfolding copyBytes
-rendered-snoc es e = rw (stamped-snoc es e, map-append, join-append, append-nil)
+copyBytes-snoc es e = rw (copyMessages-snoc es e, map-append, join-append, append-nil)

@@ -21,7 +21,7 @@ use Rattle.rules.proofs.Outcomes.{pass, halt, step, stop, passed, stepp
 use Rattle.rules.proofs.Kept.{take-sets}
 use Rattle.rules.proofs.RoundTrip.{all-written-read}
 use Rattle.rules.proofs.Again.{length-write}
-use Rattle.rules.proofs.Released.{bulk, all-valid, entries, valid-stamped, stamped-injective}
+use Rattle.rules.proofs.Released.{bulk, all-valid, entries, valid-copyMessages, copyMessages-injective}
 
 -- the copy's messages are valid
 valid-released : (rs : List Row) (recordingBytes : List ℕ) (ms : List Message) → Bytes recordingBytes → recording recordingBytes ≡ good ms → All Valid (copyMessages [] (released rs ms))
@@ -31,7 +31,7 @@ valid-released rs recordingBytes ms b e =
     let fits : length recordingBytes ≤ 65536 = ltb-false _ _ large in
     let w = all-valid 0 0 recordingBytes b fits read in
     let v = entries rs (w .valid) in
-    valid-stamped [] (v .valid) (omega (arith, w .few, v .few))
+    valid-copyMessages [] (v .valid) (omega (arith, w .few, v .few))
 
 module _ (recordingBytes sheetBytes : List ℕ) (es : List Entry) (list : releasedOf recordingBytes sheetBytes ≡ good es) where
   -- with room, the answer is the released list's, and its copy is stored
@@ -57,10 +57,10 @@ module _ (recordingBytes sheetBytes : List ℕ) (es : List Entry) (list : releas
       subst (λ (l : List Entry). All Valid (copyMessages [] l)) (good-inj e) (valid-released rs recordingBytes ms b passes)
 
 -- the copy's messages have the entries' bulk
-stamped-bulk : (seen : List ℕ) (es : List Entry) → All Valid (copyMessages seen es) → length (join (map write (copyMessages seen es))) ≡ bulk (λ (e : Entry). e .packages) es
+copyMessages-bulk : (seen : List ℕ) (es : List Entry) → All Valid (copyMessages seen es) → length (join (map write (copyMessages seen es))) ≡ bulk (λ (e : Entry). e .packages) es
 unfolding copyMessages copyMessage
-stamped-bulk seen [] a = refl
-stamped-bulk seen (e ∷ es) (all-cons {a = m} v a) = rw (length-append, length-write m v [], stamped-bulk (e .id ∷ seen) es a)
+copyMessages-bulk seen [] a = refl
+copyMessages-bulk seen (e ∷ es) (all-cons {a = m} v a) = rw (length-append, length-write m v [], copyMessages-bulk (e .id ∷ seen) es a)
 
 pub copy-short : (recordingBytes sheetBytes : List ℕ) (es : List Entry) → Bytes recordingBytes → releasedOf recordingBytes sheetBytes ≡ good es → length (copyBytes es) ≤ length recordingBytes
 unfolding releasedOf recording copyBytes
@@ -72,7 +72,7 @@ copy-short recordingBytes sheetBytes es b list =
     let v = entries rs (w .valid) in
     let least : bulk (λ (e : Entry). e .packages) (released rs ms) ≤ length recordingBytes = omega (arith, v .small, w .small) in
     let small : bulk (λ (e : Entry). e .packages) es ≤ length recordingBytes = subst (λ (l : List Entry). bulk (λ (e : Entry). e .packages) l ≤ length recordingBytes) (good-inj e) least in
-    omega (arith, stamped-bulk [] es (valid-list recordingBytes sheetBytes es list b), small)
+    omega (arith, copyMessages-bulk [] es (valid-list recordingBytes sheetBytes es list b), small)
 
 -- equal copies, with room for both: equal released lists
 pub same-list : (recordingBytes recordingBytes′ sheetBytes sheetBytes′ buffer buffer′ : List ℕ) → Bytes recordingBytes → Bytes recordingBytes′ → (es es′ : List Entry)
@@ -83,7 +83,7 @@ same-list recordingBytes recordingBytes′ sheetBytes sheetBytes′ buffer buffe
     let q : copyBytes es ≡ copyBytes es′ = sym (delivered-is recordingBytes sheetBytes es r buffer l) ∙ e ∙ delivered-is recordingBytes′ sheetBytes′ es′ r′ buffer′ l′ in
     let a = all-written-read (valid-list recordingBytes sheetBytes es r b) 0 in
     let a′ = all-written-read (valid-list recordingBytes′ sheetBytes′ es′ r′ b′) 0 in
-    stamped-injective es es′ (good-inj (sym a ∙ ap (items message 0 0) q ∙ a′))
+    copyMessages-injective es es′ (good-inj (sym a ∙ ap (items message 0 0) q ∙ a′))
 
 -- the copy is read as the released list's messages
 pub copy-read : (recordingBytes sheetBytes buffer : List ℕ) (es : List Entry) → Bytes recordingBytes → releasedOf recordingBytes sheetBytes ≡ good es → length (copyBytes es) ≤ length buffer
@@ -93,9 +93,9 @@ copy-read recordingBytes sheetBytes buffer es b r l =
     ap (items message 0 0) (delivered-is recordingBytes sheetBytes es r buffer l) ∙ all-written-read (valid-list recordingBytes sheetBytes es r b) 0
 
 -- each of those is plain: bits 3, 2 and 1 are all that is listed of the flags
-plain-stamp : (n : ℕ) (e : Entry) → e .flags % 2 ≡ 0 → e .flags < 16 → Plain (copyMessage n e)
+plain-copyMessage : (n : ℕ) (e : Entry) → e .flags % 2 ≡ 0 → e .flags < 16 → Plain (copyMessage n e)
 unfolding copyMessage
-plain-stamp n e h l = record { options = refl; playback = let g : (64 + e .flags) / 64 ≡ 1 = omega arith in rw g; end = omega arith }
+plain-copyMessage n e h l = record { options = refl; playback = let g : (64 + e .flags) / 64 ≡ 1 = omega arith in rw g; end = omega arith }
 
 record Even (e : Entry) : Type 0 where
   even : e .flags % 2 ≡ 0
@@ -114,10 +114,10 @@ unfolding released
 released-even rows [] = all-nil
 released-even rows (m ∷ ms) = entered-even m (grantedPackages rows m (m .packages)) (released-even rows ms)
 
-stamped-plain : (seen : List ℕ) {es : List Entry} → All Even es → All Plain (copyMessages seen es)
+copyMessages-plain : (seen : List ℕ) {es : List Entry} → All Even es → All Plain (copyMessages seen es)
 unfolding copyMessages
-stamped-plain seen all-nil = all-nil
-stamped-plain seen (all-cons {a = e} v a) = all-cons (plain-stamp (count (e .id) seen) e (v .even) (v .small)) (stamped-plain (e .id ∷ seen) a)
+copyMessages-plain seen all-nil = all-nil
+copyMessages-plain seen (all-cons {a = e} v a) = all-cons (plain-copyMessage (count (e .id) seen) e (v .even) (v .small)) (copyMessages-plain (e .id ∷ seen) a)
 
 pub copy-plain : (rows : List Row) (ms : List Message) → All Plain (copyMessages [] (released rows ms))
-copy-plain rows ms = stamped-plain [] (released-even rows ms)
+copy-plain rows ms = copyMessages-plain [] (released-even rows ms)

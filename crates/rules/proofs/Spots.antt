@@ -12,9 +12,9 @@ use Rattle.rules.specs.Reading.{MessageSpot, messageSpot, messageAt}
 use Rattle.rules.specs.Claims.{OfRecord}
 use Rattle.rules.proofs.Outcomes.{pass, step, stop, passed, stepped, refused-step, good-inj, good≢bad}
 
-of-parsed : (s : List ℕ) (p : ℕ) (r : ℕ × List (List ℕ)) → checksOneToTen p (drop p s) (head (drop p s)) ≡ good r → OfRecord s p (messageSpot p (head (drop p s)) r)
+of-checksOneToTen : (s : List ℕ) (p : ℕ) (r : ℕ × List (List ℕ)) → checksOneToTen p (drop p s) (head (drop p s)) ≡ good r → OfRecord s p (messageSpot p (head (drop p s)) r)
 unfolding messageSpot recordOf message
-of-parsed s p r e = record {
+of-checksOneToTen s p r e = record {
   held = recordOf (drop p s) (head (drop p s)) r;
   read = step _ _ e refl;
   flags = refl;
@@ -45,4 +45,4 @@ unfolding messageAt
 of-record s p k e =
     let (a, f) = passed _ _ _ _ e in
     let (r, g, h) = stepped _ _ f in
-    subst (λ (x : MessageSpot). OfRecord s p x) (good-inj h) (of-parsed s p r g)
+    subst (λ (x : MessageSpot). OfRecord s p x) (good-inj h) (of-checksOneToTen s p r g)

@@ -24,7 +24,7 @@ mostBytes = 65536
 abbrev pub notLarge : List ℕ → Outcome (Unit {0})
 notLarge s = refuse (ltb mostBytes (length s)) LARGE mostBytes
 
--- the numbers of a header: words is the option word count W, kind the type, flags the flag bits 7 to 0, and size the length
+-- the numbers of a header: words is the option word count W, kind the type, flags the flag bits 7 to 0, id the message id, sequence the sequence number, and size the length
 pub record Head : Type 0 where
   pub version : ℕ
   pub words : ℕ
@@ -56,7 +56,7 @@ standardBit flags = flags / 128 % 2
 abbrev pub fragmentBits : ℕ → ℕ
 fragmentBits flags = flags / 16 % 4
 
--- bits 6, 3, 2, 1 and 0, which a record keeps, each at its place
+-- bits 6, 3, 2, 1 and 0, which a record keeps, each at its place: playback, simulated, not time locked, source error, end of data
 abbrev pub recordBits : ℕ → ℕ
 recordBits flags = flags / 64 % 2 * 64 + flags % 16
 

@@ -13,7 +13,7 @@ use Rattle.rules.specs.Items.{items}
 abbrev pub packageHeader : ℕ
 packageHeader = 12
 
--- a package's id, status, time delta and data; its length L is that of header and data
+-- the package id, status, time delta and data of a package; its length L is that of header and data
 pub record Package : Type 0 where
   pub id : ℕ
   pub status : ℕ
@@ -60,6 +60,6 @@ pub data Fills : List (List ℕ) → List ℕ → Type 0 where
 abbrev pub instant : ℕ → ℕ → ℕ
 instant seconds nanos = seconds * 1000000000 + nanos
 
--- the time of a package, by its message's time and its own delta
+-- the package time, by its message's time and its own delta
 abbrev pub packageTime : ℕ → ℕ → ℕ → ℕ
 packageTime seconds nanos delta = instant seconds nanos + delta
