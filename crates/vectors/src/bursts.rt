@@ -7,8 +7,7 @@ use burst::Randomized;
 fn opened(buf: &mut [u8]) {
     match burst::open_burst(buf) {
         Opened::Done { blocks } => {
-            crate::number(0);
-            crate::number(0);
+            crate::two_zeros();
             crate::number(blocks);
         }
         Opened::Refused(x) => {
@@ -23,8 +22,7 @@ fn opened(buf: &mut [u8]) {
 fn randomized(buf: &mut [u8]) {
     match burst::randomize(buf) {
         Randomized::Done => {
-            crate::number(0);
-            crate::number(0);
+            crate::two_zeros();
         }
         Randomized::Refused(x) => {
             crate::refusal(x);
@@ -41,40 +39,67 @@ fn differ(a: u8, b: u8) -> usize
 }
 
 // How many bytes of s are not v.
-fn others(s: &[u8], v: u8) -> usize {
+fn others(s: &[u8], v: u8) {
     let mut n = 0;
     for i in 0..s.len() {
         n += differ(s[i], v);
     }
-    n
+    crate::number(n);
+    crate::end();
+}
+
+// A marker and two codeblocks of zero bytes.
+fn zero_burst() -> [u8; 1544] {
+    let mut burst = [0u8; 1544];
+    wire::put_part(&mut burst, 0, b"\x03\x47\x76\xC7\x27\x28\x95\xB0", 0, 8);
+    burst
+}
+
+fn show_part(burst: [u8; 1544], from: usize, to: usize)
+    requires { ⌜ (from ≤ to) × (to ≤ 1544) ⌝ }
+{
+    crate::show(&burst[from..to]);
+}
+
+// Zero bytes open to the sequence, which runs on: bytes 0 to 4, 255 and 768 of P12. The marker stays.
+// Opened again, the codeblocks are zero again.
+fn twice() {
+    let mut burst = zero_burst();
+    opened(&mut burst);
+    show_part(burst, 0, 13);
+    show_part(burst, 263, 264);
+    show_part(burst, 776, 777);
+    opened(&mut burst);
+    others(&burst[8..], 0);
+}
+
+// The first `count` bytes of a marker and two codeblocks.
+fn cut(count: usize)
+    requires { ⌜ count ≤ 1544 ⌝ }
+{
+    let mut burst = zero_burst();
+    opened(&mut burst[0..count]);
+}
+
+// 65,537 bytes: LARGE, and no byte has changed.
+fn large() {
+    let mut buf = crate::long();
+    randomized(&mut buf);
+    others(&buf, 0x20);
+}
+
+// Five zero bytes are randomized to the sequence's first.
+fn five() {
+    let mut buf = [0u8; 5];
+    randomized(&mut buf);
+    crate::show(&buf);
 }
 
 pub fn bursts() {
-    // Two codeblocks of zero bytes open to the sequence, which runs on: bytes 0 to 4, 255 and 768 of P12. The marker stays.
-    let mut burst = [0u8; 1544];
-    crate::copy(b"\x03\x47\x76\xC7\x27\x28\x95\xB0", &mut burst);
-    opened(&mut burst);
-    crate::show(&burst[0..13]);
-    crate::show(&burst[263..264]);
-    crate::show(&burst[776..777]);
-    // Opened again, the codeblocks are zero again.
-    opened(&mut burst);
-    crate::number(others(&burst[8..1544], 0));
-    crate::end();
+    twice();
     // A marker alone: BLOCKS at 8. Seven bytes of it: MARKER at 0.
-    let mut marker = [0u8; 8];
-    crate::copy(b"\x03\x47\x76\xC7\x27\x28\x95\xB0", &mut marker);
-    opened(&mut marker);
-    let mut cut = [0u8; 7];
-    crate::copy(b"\x03\x47\x76\xC7\x27\x28\x95\xB0", &mut cut);
-    opened(&mut cut);
-    // 65,537 bytes: LARGE, and no byte has changed.
-    let mut large = [0xEEu8; 65537];
-    randomized(&mut large);
-    crate::number(others(&large, 0xEE));
-    crate::end();
-    // Five zero bytes are randomized to the sequence's first.
-    let mut five = [0u8; 5];
-    randomized(&mut five);
-    crate::show(&five);
+    cut(8);
+    cut(7);
+    large();
+    five();
 }

@@ -1,20 +1,23 @@
 // Headers, option runs and recordings.
 use message::Checked;
+use message::Header;
 use message::HeaderRead;
+ghost use Prim.Native.Nat.{_≤_};
 
-// Number, place, W, flags, message id, sequence number, length, seconds, nanoseconds, and the option run.
+// W, flags, message id, sequence number, length, seconds and nanoseconds.
+fn fields(h: Header) {
+    crate::four(h.words as u32, h.flags as u32, h.id.0, h.sequence);
+    crate::word(h.length);
+    crate::word(h.seconds);
+    crate::word(h.nanos);
+}
+
+// Number, place, the header's fields, and the option run.
 fn header(s: &[u8]) {
     match message::read_header(s) {
         HeaderRead::Header(h) => {
-            crate::number(0);
-            crate::number(0);
-            crate::number(h.words as usize);
-            crate::number(h.flags as usize);
-            crate::number(h.id.0 as usize);
-            crate::number(h.sequence as usize);
-            crate::number(h.length as usize);
-            crate::number(h.seconds as usize);
-            crate::number(h.nanos as usize);
+            crate::two_zeros();
+            fields(h);
         }
         HeaderRead::Refused(x) => {
             crate::refusal(x);
@@ -27,55 +30,79 @@ fn header(s: &[u8]) {
 fn checked(s: &[u8]) {
     match message::check(s) {
         Checked::Passed { messages, packages } => {
-            crate::number(0);
-            crate::number(0);
+            crate::two_zeros();
             crate::number(messages);
             crate::number(packages);
         }
         Checked::Refused(x) => {
             crate::refusal(x);
-            crate::number(0);
-            crate::number(0);
+            crate::two_zeros();
         }
     }
     crate::end();
 }
 
-pub fn reading() {
+// The header of M's first so many bytes.
+fn header_of(count: usize)
+    requires { ⌜ count ≤ 56 ⌝ }
+{
     let m = crate::message_m();
-    header(&m);
-    // P7: the option run is the first 6 bytes; with 05 for 06, OPTION at 24.
+    header(&m[0..count]);
+}
+
+// The header of M with the option bytes of P7, and this length byte in them.
+fn header_with_options(length: u8) {
     let mut n = crate::message_n();
+    n[25] = length;
     header(&n);
-    n[25] = 0x05;
-    header(&n);
-    // A header alone is read with CUT as well.
-    header(&m[0..24]);
-    // P2, an empty recording, and M.
-    checked(&m[0..23]);
-    checked(b"");
+}
+
+// M's first so many bytes.
+fn cut(count: usize)
+    requires { ⌜ count ≤ 56 ⌝ }
+{
+    let m = crate::message_m();
+    checked(&m[0..count]);
+}
+
+// M with this word at this place.
+fn with(at: usize, word: u32) {
+    let m = crate::changed(at, word);
     checked(&m);
-    // P3, TYPE, and P4: the first byte 11 and length 18 (hex).
-    checked(&crate::changed(0, 0x20));
-    checked(&crate::changed(1, 0x01));
-    let mut short = crate::changed(0, 0x11);
-    short[15] = 0x18;
-    checked(&short);
+}
+
+// P4: M with the first byte 11 and length 18 (hex).
+fn too_short_for_options() {
+    let mut m = crate::changed(12, 0x18);
+    m[0] = 0x11;
+    checked(&m);
+}
+
+pub fn reading() {
+    header_of(56);
+    // P7: the option run is the first 6 bytes; with 05 for 06, OPTION at 24.
+    header_with_options(0x06);
+    header_with_options(0x05);
+    // A header alone is read with CUT as well.
+    header_of(24);
+    // P2, an empty recording, and M.
+    cut(23);
+    cut(0);
+    cut(56);
+    // P3, TYPE, and P4.
+    with(0, 0x20000080);
+    with(0, 0x10010080);
+    too_short_for_options();
     // P5, and P6 with 3B9ACA00 and 3B9AC9FF nanoseconds.
-    checked(&crate::changed(15, 0x3C));
-    let mut late = crate::changed(20, 0x3B);
-    late[21] = 0x9A;
-    late[22] = 0xCA;
-    checked(&late);
-    late[22] = 0xC9;
-    late[23] = 0xFF;
-    checked(&late);
+    with(12, 0x3C);
+    with(20, 0x3B9ACA00);
+    with(20, 0x3B9AC9FF);
     // P8: the first L is 11, 33, 17 and 16.
-    checked(&crate::changed(29, 11));
-    checked(&crate::changed(29, 33));
-    checked(&crate::changed(29, 17));
-    checked(&crate::changed(29, 16));
+    with(28, 0x000B0000);
+    with(28, 0x00210000);
+    with(28, 0x00110000);
+    with(28, 0x00100000);
     // Flags 0090 and 0000: FRAGMENT and STANDARD.
-    checked(&crate::changed(3, 0x90));
-    checked(&crate::changed(3, 0x00));
+    with(0, 0x10000090);
+    with(0, 0x10000000);
 }

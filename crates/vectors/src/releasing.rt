@@ -1,60 +1,57 @@
 // Order sheets and the copy.
 use release::Copied;
+use sheet::Row;
 use sheet::SheetAnswer;
-use sheet::Time;
+ghost use Prim.Native.Nat.{_≤_};
 
-// Row R of document 01: ids 7 to 7, 1 to 1, from 100 s to 101 s.
-fn row_r() -> [u8; 32] {
-    let mut r = [0u8; 32];
-    wire::put_word(&mut r, 0, 0x00000007);
-    wire::put_word(&mut r, 4, 0x00000007);
-    wire::put_word(&mut r, 8, 0x00000001);
-    wire::put_word(&mut r, 12, 0x00000001);
-    wire::put_word(&mut r, 16, 0x00000064);
-    wire::put_word(&mut r, 20, 0x00000000);
-    wire::put_word(&mut r, 24, 0x00000194);
-    wire::put_word(&mut r, 28, 0x00000000);
-    r
+// Row R of document 01, ids 7 to 7, 1 to 1, from 100 s to 101 s; and a byte behind it.
+fn row_r() -> [u8; 33] {
+    *b"\x00\x00\x00\x07\x00\x00\x00\x07\x00\x00\x00\x01\x00\x00\x00\x01\
+        \x00\x00\x00\x64\x00\x00\x00\x00\x00\x00\x01\x94\x00\x00\x00\x00\x00"
 }
 
-fn time(t: Time) {
-    crate::number(t.seconds as usize);
-    crate::number(t.nanos as usize);
+fn row(r: Row) {
+    crate::four(r.first_mdid.0, r.last_mdid.0, r.first_pdid.0, r.last_pdid.0);
+    crate::four(r.start.seconds, r.start.nanos, r.end.seconds, r.end.nanos);
+}
+
+// Number and place.
+fn told(a: SheetAnswer) {
+    match a {
+        SheetAnswer::Good => {
+            crate::two_zeros();
+        }
+        SheetAnswer::Refused(x) => {
+            crate::refusal(x);
+        }
+    }
 }
 
 // Number, place, how many rows, and the first row.
 fn sheet(s: &[u8]) {
     let read = sheet::read_sheet(s);
     let answer = read.answer;
-    match answer {
-        SheetAnswer::Good => {
-            crate::number(0);
-            crate::number(0);
-        }
-        SheetAnswer::Refused(x) => {
-            crate::refusal(x);
-        }
-    }
+    told(answer);
     crate::number(read.count);
     let rows = read.rows;
-    let row = rows[0];
-    crate::number(row.first_mdid.0 as usize);
-    crate::number(row.last_mdid.0 as usize);
-    crate::number(row.first_pdid.0 as usize);
-    crate::number(row.last_pdid.0 as usize);
-    let start = row.start;
-    time(start);
-    let end = row.end;
-    time(end);
+    row(rows[0]);
     crate::end();
+}
+
+// The first `count` bytes of R and the byte behind it, with this last byte of R.
+fn sheet_r(last: u8, count: usize)
+    requires { ⌜ count ≤ 33 ⌝ }
+{
+    let mut r = row_r();
+    wire::put_byte(&mut r, 31, last);
+    sheet(&r[0..count]);
 }
 
 // Number, place, bytes, messages and packages; and the buffer.
 fn copied(recording: &[u8], sheet: &[u8], out: &mut [u8]) {
     match release::copy(recording, sheet, out) {
         Copied::Written(t) => {
-            crate::number(0);
-            crate::number(0);
+            crate::two_zeros();
             crate::number(t.bytes);
             crate::number(t.messages);
             crate::number(t.packages);
@@ -62,29 +59,31 @@ fn copied(recording: &[u8], sheet: &[u8], out: &mut [u8]) {
         Copied::Refused(x) => {
             crate::refusal(x);
             crate::number(0);
-            crate::number(0);
-            crate::number(0);
+            crate::two_zeros();
         }
     }
     crate::show(out);
 }
 
-pub fn releasing() {
+// The copy of M's first `count` bytes under `rows` bytes of R and the byte behind it, in a buffer of `room` bytes.
+fn under_r(count: usize, rows: usize, room: usize)
+    requires { ⌜ (count ≤ 56) × (rows ≤ 33) × (room ≤ 44) ⌝ }
+{
     let m = crate::message_m();
-    // P9, a sheet of 33 bytes, and a spare bit that is not zero.
-    let mut r = row_r();
-    sheet(&r);
-    let odd = [0u8; 33];
-    sheet(&odd);
-    r[31] = 0x01;
-    sheet(&r);
-    r[31] = 0x00;
-    // P1 and P10; a buffer of 44 bytes keeps its last four, and one of 39 is ROOM, 40.
+    let r = row_r();
     let mut out = [0xEEu8; 44];
-    copied(b"", &r, &mut out);
-    copied(&m, &r, &mut out);
-    let mut short = [0xEEu8; 39];
-    copied(&m, &r, &mut short);
+    copied(&m[0..count], &r[0..rows], &mut out[0..room]);
+}
+
+pub fn releasing() {
+    // P9, a sheet of 33 bytes, and a spare bit that is not zero.
+    sheet_r(0x00, 32);
+    sheet_r(0x00, 33);
+    sheet_r(0x01, 32);
+    // P1 and P10; a buffer of 44 bytes keeps its last four, and one of 39 is ROOM, 40.
+    under_r(0, 32, 44);
+    under_r(56, 32, 44);
+    under_r(56, 32, 39);
     // A bad sheet is found before a bad recording.
-    copied(b"\x20", &odd, &mut short);
+    under_r(1, 33, 39);
 }

@@ -1,21 +1,28 @@
 // Steps of a package walk.
+use message::Package;
 use message::PackageRead;
 
-// Number, place, whether a package is shown, its id, L, status and delta, the walk's next place, and the data shown.
+// Number, place, whether a package is shown, its id, L, status and delta.
+fn package(p: Package) {
+    crate::two_zeros();
+    crate::number(1);
+    crate::four(p.id.0, p.length as u32, p.status as u32, p.delta);
+}
+
+// No package: all its numbers are zero.
+fn none() {
+    crate::number(0);
+    crate::four(0, 0, 0, 0);
+}
+
+// The package or none, the walk's next place, and the data shown.
 fn step(run: &[u8], at: usize) {
     match walk::step_at(run, at) {
         PackageRead::Package(p) => {
-            crate::number(0);
-            crate::number(0);
-            crate::number(1);
-            crate::number(p.id.0 as usize);
-            crate::number(p.length as usize);
-            crate::number(p.status as usize);
-            crate::number(p.delta as usize);
+            package(p);
         }
         PackageRead::End => {
-            crate::number(0);
-            crate::number(0);
+            crate::two_zeros();
             none();
         }
         PackageRead::Refused(x) => {
@@ -27,25 +34,24 @@ fn step(run: &[u8], at: usize) {
     crate::show(walk::data_at(run, at));
 }
 
-// No package: all its numbers are zero.
-fn none() {
-    crate::number(0);
-    crate::number(0);
-    crate::number(0);
-    crate::number(0);
-    crate::number(0);
+// A step of M's payload, with this word for the one with the first L.
+fn payload(length: u32, at: usize) {
+    let m = crate::changed(28, length);
+    step(&m[24..56], at);
+}
+
+// LARGE comes before the end.
+fn large() {
+    let run = crate::long();
+    step(&run, 70000);
 }
 
 pub fn walking() {
-    // M's payload: its two packages without their padding, and then the end.
-    let m = crate::message_m();
-    step(&m[24..56], 0);
-    step(&m[24..56], 16);
-    step(&m[24..56], 32);
+    // M's two packages without their padding, and then the end.
+    payload(0x000D0000, 0);
+    payload(0x000D0000, 16);
+    payload(0x000D0000, 32);
     // With the first L = 17 the second package would begin at 20. PACKAGE there, and the walk stays.
-    let bad = crate::changed(29, 17);
-    step(&bad[24..56], 20);
-    // LARGE comes before the end.
-    let large = [0u8; 65537];
-    step(&large, 70000);
+    payload(0x00110000, 20);
+    large();
 }
