@@ -32,7 +32,7 @@ pub enum Written {
     Refused(Refusal),
 }
 
-fn wide(x: u16) -> usize
+fn wide16(x: u16) -> usize
     ensures { λ r. ⌜ (r ≡ x) × (r < 65536) ⌝ }
 {
     x as usize
@@ -58,7 +58,7 @@ fn round_up(n: usize) -> usize
 fn content_len(piece: &[u8]) -> usize
     ensures { λ r. ⌜ (r ≡ length (part 12 (half (now (piece .entry)) 4) (now (piece .entry)))) × (r < 65524) ⌝ }
 {
-    let l = wide(wire::half_at(piece, 4));
+    let l = wide16(wire::half_at(piece, 4));
     if l < 12 {
         return 0;
     }
@@ -99,7 +99,7 @@ fn put_next(out: &mut [u8], run: &[u8], at: usize) -> usize
     requires { ⌜ (at ≤ length (now run)) × (length (now run) ≤ length (now out)) ⌝ }
     ensures { λ r. ⌜ Moved (now (out .entry)) (now (run .entry)) at (now (out .exit)) r ⌝ }
 {
-    let end = at + round_up(wide(wire::half_at(&run[at..], 4)));
+    let end = at + round_up(wide16(wire::half_at(&run[at..], 4)));
     put_package(&mut out[at..], &run[at..end]);
     end
 }

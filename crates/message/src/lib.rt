@@ -329,7 +329,7 @@ enum Piece {
     Bad,
 }
 
-fn padded(n: usize) -> usize
+fn round_up(n: usize) -> usize
     requires { ⌜ n < 4294967296 ⌝ }
     ensures { λ r. ⌜ r ≡ (n + 3) / 4 * 4 ⌝ }
 {
@@ -346,7 +346,7 @@ fn piece_here(s: &[u8]) -> Piece
     if l < 12 {
         return Piece::Bad;
     }
-    let size = padded(l);
+    let size = round_up(l);
     if s.len() < size {
         return Piece::Bad;
     }
