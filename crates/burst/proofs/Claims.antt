@@ -1,14 +1,8 @@
--- A promise allows one outcome alone: answers that tell the same, each with the buffer after it, are the same. And randomizing twice gives a buffer back.
-use Prim.Native.Nat.{ℕ, _≤_}
-use mathlib.Core.Path.{_≡_, refl, sym, ap}
-use mathlib.Core.Bool.{Bool, true, false}
+-- A promise allows one outcome alone: answers that tell the same, each with the buffer after it, are the same.
+use Prim.Native.Nat.{ℕ}
+use mathlib.Core.Path.{refl, sym, ap}
 use mathlib.Core.List.{List}
-use native.Mathlib.Omega.{arith}
-use borrow.Author.Tests.{ltb-true, ltb-false}
-use lib.Dec.{ltb}
-use lib.ListN.{length}
 use Rattle.rules.specs.Burst as rules
-use Rattle.rules.proofs.Sequence.{randomized-twice, randomized-length}
 use Rattle.rules.specs.Claims.{TellsApart}
 use Rattle.rules.proofs.Apart.{beside}
 use Rattle.refusal.proofs.Numbers.{number-positive, same-refusal}
@@ -17,7 +11,6 @@ use Rattle.burst.specs.declared.Randomized.the-variants as randomized
 use Rattle.burst.specs.declared.Opened.{Opened}
 use Rattle.burst.specs.declared.Opened.the-variants as opened
 use Rattle.burst.specs.Told.{numbersRandomized, toldRandomized, numbersOpened, toldOpened}
-use Rattle.burst.proofs.Answers.{randomizer-large, randomizer-done}
 
 same-randomized : TellsApart numbersRandomized
 same-randomized randomized.Done randomized.Done e = refl
@@ -36,16 +29,3 @@ tells-randomized = beside numbersRandomized same-randomized
 
 pub tells-opened : TellsApart (λ (x : Opened × List ℕ). toldOpened (x .0) (x .1))
 tells-opened = beside numbersOpened same-opened
-
--- the buffer after the randomizer, twice, whatever its length
-pub given-back : (s : List ℕ) → rules.randomizer (rules.randomizer s .1) .1 ≡ s
-given-back s = go (ltb 65536 (length s)) refl
-  where
-    go : (b : Bool) → ltb 65536 (length s) ≡ b → rules.randomizer (rules.randomizer s .1) .1 ≡ s
-    go true t =
-        let e = randomizer-large s (ltb-true 65536 (length s) t) in
-        rw (← e, ← e)
-    go false t =
-        let h : length s ≤ 65536 = ltb-false 65536 (length s) t in
-        let r = rules.randomized 0 s in
-        rw (← randomizer-done s r h refl, ← randomizer-done r (rules.randomized 0 r) (omega (arith, randomized-length 0 s)) refl) (randomized-twice 0 s)

@@ -13,7 +13,6 @@ use borrow.Author.Tests.{lt-leb, not-false, le-ltb}
 use Rattle.rules.specs.Outcome.{Outcome, good, bad, _>>=_}
 use Rattle.rules.specs.Bytes.{at, half, word, pad, part}
 use Rattle.rules.specs.Packages.{piece, packageOf, pieceOf, Piece}
-use Rattle.rules.specs.Message.{payloadStart}
 use Rattle.rules.proofs.Outcomes.{pass, passed, stepped, good-inj, good≢bad, refused-step}
 use Rattle.rules.proofs.Cut.{Fit, fit, piece-of}
 use Rattle.rules.proofs.Pieces.{length-padded}

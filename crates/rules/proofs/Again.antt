@@ -9,7 +9,6 @@ use lib.ListN.{length, drop, length-append}
 use lib.Seq.{take-append-seam, drop-append-seam, drop-drop}
 use Rattle.rules.specs.Outcome.{good}
 use Rattle.rules.specs.Bytes.{at, word, pad, padded, part, join, oneIfAny}
-use Rattle.rules.specs.Options.{optionRunFrom}
 use Rattle.rules.specs.Packages.{Package, cut, pieceOf}
 use Rattle.rules.specs.Message.{Head, head, payloadStart, checksOneToSix, optionRunLength, checksEightToTen, checksOneToTen, Message, recordOf, message}
 use Rattle.rules.specs.Writer.{write}

@@ -2,6 +2,7 @@
 use Prim.Native.Nat.{ℕ, _+_, _≤_}
 use mathlib.Core.Path.{_≡_, refl, ap, sym, _∙_}
 use mathlib.Core.List.{List}
+use native.Mathlib.Omega.{arith}
 use borrow.Author.Tests.{le-ltb}
 use lib.ListN.{length}
 use Rattle.rules.specs.Outcome.{good, _>>=_, _>>_}
@@ -13,7 +14,7 @@ use Rattle.rules.specs.Writer.{written, writer}
 use Rattle.rules.specs.Clean.{cleanForm, cleaner}
 use Rattle.rules.specs.Copy.{releasedOf, roomFor, answered, copy}
 use Rattle.rules.specs.Burst.{randomized, opening, randomizer, opener}
-use Rattle.rules.specs.Claims.{BuffersKept, WrittenRead, AcceptedValid, ReadValid, ReadWritten, PartsWritten, WriterWrites, CleanerWrites, RoomRefused, SpotOfRecord, SpotExactly, CleanAlone, CleanTwice, CleanExactly, PackageExactly, PackagePlace, CutExactly, WalkShowsAll, WalkStays, GrantedExactly, Recurrence, BitPeriod, TableEntry, RandomizedTwice, RandomizedByte, BurstOpened, SameCopies, DifferentCopies, CountsReleased, SequenceCounted, ReleasedEach, CopyRead, CopyNotLonger, CopyPlain, OneOutcome, partsOf}
+use Rattle.rules.specs.Claims.{BuffersKept, WrittenRead, AcceptedValid, ReadValid, ReadWritten, PartsWritten, WriterWrites, CleanerWrites, RoomRefused, SpotOfRecord, SpotExactly, CleanAlone, CleanTwice, CleanExactly, PackageExactly, PackagePlace, CutExactly, WalkShowsAll, WalkStays, GrantedExactly, Recurrence, BitPeriod, TableEntry, RandomizedTwice, RandomizedByte, BurstExactly, SameCopies, DifferentCopies, CountsReleased, SequenceCounted, ReleasedEach, CopyRead, CopyNotLonger, CopyPlain, OneOutcome, partsOf}
 use Rattle.rules.proofs.Outcomes.{pass, step, stepped, good-inj}
 use Rattle.rules.proofs.Kept.{careful-stored, careful-answered, kept-randomized, kept-opened, writes, roomless}
 use Rattle.rules.proofs.Cut as Cut
@@ -25,6 +26,7 @@ use Rattle.rules.proofs.Refused.{exactly}
 use Rattle.rules.proofs.Walks.{walks-cut, stays}
 use Rattle.rules.proofs.Granted.{granted-exactly}
 use Rattle.rules.proofs.Sequence as Sequence
+use Rattle.rules.proofs.Bursts.{randomizer-is, burst-exactly}
 use Rattle.rules.specs.Table.{Table}
 use Rattle.rules.proofs.Table.{table}
 use Rattle.rules.proofs.Growing.{copyMessages-snoc, released-append}
@@ -139,13 +141,16 @@ pub table-entry : TableEntry
 table-entry = Sequence.byte-entry
 
 pub randomized-twice : RandomizedTwice
-randomized-twice = Sequence.randomized-twice 0
+randomized-twice buffer l =
+    let e = randomizer-is buffer l in
+    let again : randomizer (randomized 0 buffer) .1 ≡ buffer = ap (λ (x : _). x .1) (randomizer-is (randomized 0 buffer) (omega (arith, Sequence.randomized-length 0 buffer))) ∙ Sequence.randomized-twice 0 buffer in
+    (ap (λ (x : _). x .0) e, rw e again)
 
 pub randomized-byte : RandomizedByte
-randomized-byte s k h = rw zero-add at (Sequence.randomized-at 0 s k h)
+randomized-byte buffer k l h = rw (randomizer-is buffer l) (rw zero-add at (Sequence.randomized-at 0 buffer k h))
 
-pub burst-opened : BurstOpened
-burst-opened = Sequence.burst-opened
+pub burst-is : BurstExactly
+burst-is = burst-exactly
 
 pub table-holds : Table
 table-holds = table

@@ -22,6 +22,7 @@ pub mod Granted
 pub mod Claims
 pub mod Rows
 pub mod Sequence
+pub mod Bursts
 pub mod Writer
 pub mod Loops
 pub mod Growing

@@ -1,20 +1,15 @@
 -- The randomizer's sequence repeats after 255 bits, so its bytes repeat after 255 bytes, and one table holds a period. Randomizing twice gives the bytes back.
 -- A window is the latest eight of the bits so far. It alone tells the next window, so a window that comes again brings all that follows it again.
-use Prim.Native.Nat.{ℕ, zero, suc, _+_, _-_, _*_, _/_, _%_, _<_, _≤_}
+use Prim.Native.Nat.{ℕ, zero, suc, _+_, _-_, _*_, _/_, _%_, _<_}
 use mathlib.Core.Path.{_≡_, refl, sym, ap, ap₂, _∙_}
 use mathlib.Core.List.{List, [], _∷_, _++_}
 use native.Mathlib.Nat.{add-zero, zero-add, add-suc, suc-add}
 use native.Mathlib.Omega.{arith}
 use lib.Arith.{bin-ind}
 use lib.Bits.{bitXor, differ, xor-step, xor-zero-l, xor-self}
-use mathlib.Core.Bool.{true, _&&_}
-use lib.Dec.{leb, eqb}
-use borrow.Author.Tests.{leb-true, eqb-true, not-false}
-use lib.ListN.{length, getD, take, drop, replicate}
-use lib.Seq.{getD-take, take-take, take-at, drop-at, length-take-le}
-use Rattle.rules.specs.Burst.{_xor_, before, nextBit, bits, bit, byteOf, sequenceByte, sequenceBytes, randomized, marked, codeblocks, blocksFit, opening}
-use Rattle.rules.specs.Outcome.{good}
-use Rattle.rules.proofs.Outcomes.{passed, good-inj, both}
+use lib.ListN.{length, getD, take, replicate}
+use lib.Seq.{getD-take, take-take}
+use Rattle.rules.specs.Burst.{_xor_, before, nextBit, bits, bit, byteOf, sequenceByte, sequenceBytes, randomized}
 
 next-bit : (n : ℕ) → bit (suc (suc (suc (suc (suc (suc (suc (suc n)))))))) ≡ bit n xor bit (suc (suc (suc n))) xor bit (suc (suc (suc (suc (suc n))))) xor bit (suc (suc (suc (suc (suc (suc (suc n)))))))
 unfolding bit bits
@@ -151,31 +146,3 @@ unfolding randomized
 randomized-at k [] j h = absurd (omega arith)
 randomized-at k (x ∷ s) zero h = rw add-zero
 randomized-at k (x ∷ s) (suc j) h = rw (add-suc, ← suc-add) (randomized-at (suc k) s j (omega arith))
-
--- a burst that is opened: the marker stays, and all behind it is randomized as one list
-pub burst-opened : (s after : List ℕ) (blocks : ℕ) → opening s ≡ good (blocks, after)
-    → (take 8 after ≡ take 8 s) × (drop 8 after ≡ randomized 0 (drop 8 s)) × (8 + blocks * 768 ≡ length s)
-unfolding opening
-burst-opened s after blocks e =
-    let (a, e) = passed _ _ _ _ e in
-    let (m, e) = passed _ _ _ _ e in
-    let (b, e) = passed _ _ _ _ e in
-    opened-parts s after blocks (long s (not-false _ m)) (whole (length s) (not-false _ b)) (good-inj e)
-  where
-    long : (t : List ℕ) → marked t ≡ true → 8 ≤ length t
-    long t m = leb-true 8 (length t) (both _ _ (both _ _ m .0) .0)
-
-    whole : (n : ℕ) → blocksFit n ≡ true → ((n - 8) % 768 ≡ 0) × (1 ≤ (n - 8) / 768)
-    whole n b =
-        let (c, d) = both (leb 1 ((n - 8) / 768) && leb ((n - 8) / 768) 80) (eqb ((n - 8) % 768) 0) b in
-        let (f, g) = both (leb 1 ((n - 8) / 768)) (leb ((n - 8) / 768) 80) c in
-        (eqb-true _ _ d, leb-true _ _ f)
-
-    opened-parts : (s after : List ℕ) (blocks : ℕ) → 8 ≤ length s → ((length s - 8) % 768 ≡ 0) × (1 ≤ (length s - 8) / 768)
-        → _≡_ {A = ℕ × List ℕ} (codeblocks (length s), take 8 s ++ randomized 0 (drop 8 s)) (blocks, after)
-        → (take 8 after ≡ take 8 s) × (drop 8 after ≡ randomized 0 (drop 8 s)) × (8 + blocks * 768 ≡ length s)
-    opened-parts s after blocks l w q =
-        let f : take 8 s ++ randomized 0 (drop 8 s) ≡ after = ap (λ (x : ℕ × List ℕ). x .1) q in
-        let n : codeblocks (length s) ≡ blocks = ap (λ (x : ℕ × List ℕ). x .0) q in
-        let z : length (take 8 s) ≡ 8 = length-take-le 8 s l in
-        (rw (← f) (take-at (take 8 s) (randomized 0 (drop 8 s)) 8 z), rw (← f) (drop-at (take 8 s) (randomized 0 (drop 8 s)) 8 z), rw (← n) (omega (arith, w .0)))

@@ -18,7 +18,7 @@ use Rattle.rules.specs.Clean.{cleanForm, cleaner}
 use Rattle.rules.specs.Valid.{Valid, DraftFits}
 use Rattle.rules.specs.Sheet.{Row}
 use Rattle.rules.specs.Copy.{granted, Entry, released, count, copyMessage, copyMessages, copyBytes, packagesIn, releasedOf, copy, delivered}
-use Rattle.rules.specs.Burst.{_xor_, bit, sequenceByte, sequenceBytes, randomized, randomizer, marker, blockSize, opening, opener}
+use Rattle.rules.specs.Burst.{_xor_, bit, sequenceByte, sequenceBytes, randomized, randomizer, marker, blockSize, mostBlocks, opening, opener}
 
 -- ---- Demand 1: a refusal changes no byte of the caller's buffers, and what is written changes none behind it.
 
@@ -172,17 +172,18 @@ BitPeriod = (n : ℕ) → bit (n + 255) ≡ bit n
 abbrev pub TableEntry : Type 0
 TableEntry = (k : ℕ) → sequenceByte k ≡ getD (sequenceBytes 0 255) (k % 255) 0
 
--- Randomizing twice gives the buffer back.
+-- Randomizing takes every buffer within the limit, and twice gives the buffer back.
 abbrev pub RandomizedTwice : Type 0
-RandomizedTwice = (s : List ℕ) → randomized 0 (randomized 0 s) ≡ s
+RandomizedTwice = (buffer : List ℕ) → length buffer ≤ mostBytes → (randomizer buffer .0 ≡ record { number = 0; place = 0 }) × (randomizer (randomizer buffer .1) .1 ≡ buffer)
 
--- Randomizing exclusive-ors byte k with sequence byte k. In a burst the sequence starts once behind the marker, which stays, and runs on to the end.
+-- Randomizing exclusive-ors byte k with sequence byte k.
 abbrev pub RandomizedByte : Type 0
-RandomizedByte = (s : List ℕ) (k : ℕ) → k < length s → getD (randomized 0 s) k 0 ≡ getD s k 0 xor sequenceByte k
+RandomizedByte = (buffer : List ℕ) (k : ℕ) → length buffer ≤ mostBytes → k < length buffer → getD (randomizer buffer .1) k 0 ≡ getD buffer k 0 xor sequenceByte k
 
-abbrev pub BurstOpened : Type 0
-BurstOpened = (s after : List ℕ) (blocks : ℕ) → opening s ≡ good (blocks, after)
-    → (take (length marker) after ≡ take (length marker) s) × (drop (length marker) after ≡ randomized 0 (drop (length marker) s)) × (length marker + blocks * blockSize ≡ length s)
+-- A burst is opened exactly if it is the marker and 1 to 80 codeblocks of 768 bytes. The marker stays, and the sequence starts once behind it and runs on to the end.
+abbrev pub BurstExactly : Type 0
+BurstExactly = (s : List ℕ) → Bytes s → (blocks : ℕ) (after : List ℕ) → (opening s ≡ good (blocks, after)) ↔ ((take (length marker) s ≡ marker)
+    × (1 ≤ blocks) × (blocks ≤ mostBlocks) × (length s ≡ length marker + blocks * blockSize) × (after ≡ marker ++ randomized 0 (drop (length marker) s)))
 
 -- ---- Demand 3: the copy talks about nothing but what was released.
 
