@@ -7,10 +7,10 @@ use mathlib.Core.List.{List, [], _∷_, _++_}
 use native.Mathlib.Nat.{zero-add}
 use native.Mathlib.Numerals.{add-one}
 use native.Mathlib.Omega.{arith}
-use lib.Dec.{eqb}
+use lib.Dec.{eqb, ltb}
 use lib.ListN.{length, getD, take, drop, set, replicate, length-append, take-append-drop}
-use lib.Seq.{take-suc, take-suc-set, take-all, getD-set-same, getD-set-other, getD-take, length-take-le}
-use borrow.Author.Tests.{eqb-true, eqb-false}
+use lib.Seq.{take-suc, take-suc-set, take-all, getD-set-same, getD-set-other, getD-take, getD-drop, length-take-le}
+use borrow.Author.Tests.{eqb-true, eqb-false, ltb-true, ltb-false}
 use Rattle.rules.specs.Copy.{count}
 use Rattle.release.specs.Parts.{Place, oneMore, heldWith}
 
@@ -91,8 +91,8 @@ module _ (ids : List ℕ) (x : ℕ) where
           let z = count-other x (getD ids i 0) (λ e. h (sym e)) in
           record {
             most = inv .most;
-            met = λ s. (inv .met s .0, omega (arith, inv .met s .1, one-more));
-            unmet = λ s. omega (arith, inv .unmet s, one-more);
+            met = λ s. (inv .met s .0, omega (arith, inv .met s .1, one-more, z));
+            unmet = λ s. omega (arith, inv .unmet s, one-more, z);
           }
 
       -- it was not met before, since it stands there once
@@ -126,9 +126,17 @@ zeros zero i = refl
 zeros (suc n) zero = refl
 zeros (suc n) (suc i) = zeros n i
 
-pub counts-start : (ids : List ℕ) (n : ℕ) → Counts ids (replicate n 0) 0 []
+pub counts-start : (ids : List ℕ) (k n : ℕ) → Counts ids (drop k (replicate n 0)) 0 []
 unfolding count
-counts-start ids n = record { right = λ i l. absurd (omega arith); fresh = λ i l. zeros n i; once = λ x. omega arith; none = λ x e. refl; few = omega arith }
+counts-start ids k n = record { right = λ i l. absurd (omega arith); fresh = λ i l. getD-drop k (replicate n 0) i 0 ∙ zeros n (k + i); once = λ x. omega arith; none = λ x e. refl; few = omega arith }
+
+-- no number is larger than how many were seen
+pub number-few : (ids numbers : List ℕ) (held : ℕ) (seen : List ℕ) → Counts ids numbers held seen → (i : ℕ) → getD numbers i 0 ≤ length seen
+number-few ids numbers held seen inv i = go (ltb i held) refl
+  where
+    go : (b : Bool) → ltb i held ≡ b → getD numbers i 0 ≤ length seen
+    go true e = omega (arith, inv .right i (ltb-true i held e), count-few (getD ids i 0) seen)
+    go false e = omega (arith, inv .fresh i (ltb-false i held e))
 
 set-same : (l : List ℕ) (i x : ℕ) → getD l i 0 ≡ x → i < length l → set l i x ≡ l
 set-same [] i x e h = refl
@@ -158,14 +166,11 @@ module _ (ids numbers : List ℕ) (held : ℕ) (seen : List ℕ) (inv : Counts i
       go : (b : Bool) → eqb place held ≡ b → getD numbers place 0 ≡ count x seen
       go true e =
           let p = eqb-true place held e in
-          inv .fresh place (omega arith) ∙ sym (inv .none x (unfound p))
+          inv .fresh place (omega (arith, p)) ∙ sym (inv .none x (unfound p))
       go false e =
           let p = eqb-false place held e in
-          let l : place < held = omega (arith, at-most) in
+          let l : place < held = omega (arith, at-most, p) in
           inv .right place l ∙ ap (λ (y : ℕ). count y seen) (found l)
-
-  pub number-few : getD numbers place 0 ≤ length seen
-  number-few = omega (arith, number-is, count-few x seen)
 
   -- x is seen once more
   module _ (inside : place < length ids) (beside : place < length numbers) where
@@ -212,7 +217,7 @@ module _ (ids numbers : List ℕ) (held : ℕ) (seen : List ℕ) (inv : Counts i
       right = λ i b. right′ i b (eqb i place) refl;
       fresh = λ i b. still-fresh i (omega arith) (λ e. omega arith);
       once = λ y. rw more (⊎-elim (λ w. omega (arith, parts y, w .1, unfound p, ap (λ (z : ℕ). count z (take held ids)) (w .0))) (λ w. omega (arith, parts y, w .1, inv .once y)) (count-one y x));
-      none = λ y e. let z = rw more at e in omega (arith, parts y, seen-more y, inv .none y (omega (arith, parts y)));
+      none = λ y e. let z = rw more at e in omega (arith, z, parts y, seen-more y, inv .none y (omega (arith, z, parts y)));
       few = omega (arith, inv .few, length-append seen (x ∷ []));
     }
       where
@@ -237,5 +242,5 @@ module _ (ids numbers : List ℕ) (held : ℕ) (seen : List ℕ) (inv : Counts i
         go true e = new (eqb-true place held e)
         go false e =
             let p = eqb-false place held e in
-            let l : place < held = omega (arith, at-most) in
+            let l : place < held = omega (arith, at-most, p) in
             rw (set-same ids place x (found l) inside) (again l)

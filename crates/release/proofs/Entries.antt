@@ -31,7 +31,7 @@ use Rattle.message.specs.declared.MessageRead.the-variants as M
 use Rattle.message.specs.Answers.{messageHere, toldMessage}
 use Rattle.rules.specs.Reading.{MessageSpot, messageSpot, messageAt}
 use Rattle.release.specs.declared.Size.{Size}
-use Rattle.release.specs.Parts.{who, kept, payloadOf, withEntry, headBytes}
+use Rattle.release.specs.Parts.{messageBy, kept, payloadOf, withEntry, headBytes}
 use Rattle.release.specs.Told.{totals}
 
 -- the message of the copy with sequence number n and the granted packages ps; nothing where there are none
@@ -137,11 +137,11 @@ module _ (recordingBytes : List ℕ) (k : ℕ) (m : Message) (f : Met recordingB
   module _ (rs : List rows.Row) where
     -- its granted packages
     abbrev pub ps : List rules.Package
-    ps = kept rs (who (m .header)) (f .r .1)
+    ps = kept rs (messageBy (m .header)) (f .r .1)
 
     granted-are : grantedPackages rs it (it .packages) ≡ ps
     unfolding kept recordOf
-    granted-are = granteds-same it (who (m .header)) (f .id) (f .seconds) (f .nanos) rs (map packageOf (f .r .1))
+    granted-are = granteds-same it (messageBy (m .header)) (f .id) (f .seconds) (f .nanos) rs (map packageOf (f .r .1))
 
     pub grown : (done : List messages.Message) → released rs (done ++ (it ∷ [])) ≡ released rs done ++ withEntryOf it ps []
     grown done = rw (released-snoc rs done it, granted-are)

@@ -1,10 +1,12 @@
 -- The packages of one message: what the two loops over a run keep.
 use Prim.Native.Nat.{ℕ, _+_, _-_, _≤_, _<_}
 use mathlib.Core.Path.{_≡_, refl, sym, ap, _∙_}
+use mathlib.Core.Logic.{_⊎_, ⊎-elim}
 use mathlib.Core.Bool.{Bool, true, false}
 use mathlib.Core.List.{List, [], _∷_, _++_, map, append-nil}
 use native.Mathlib.Nat.{add-zero}
 use native.Mathlib.Omega.{arith}
+use denote.Enum.Declared.{tagOf}
 use lib.ListN.{length, take, drop, length-append}
 use lib.Seq.{sets}
 use Rattle.rules.specs.Outcome.{good, bad}
@@ -16,17 +18,18 @@ use Rattle.rules.specs.Copy.{granted, grantedPackages}
 use Rattle.rules.proofs.Outcomes.{good-inj, good≢bad}
 use Rattle.rules.proofs.Growing.{join-append, map-append}
 use Rattle.rules.proofs.Loops.{Doing, doing-start, doing-next, doing-end, doing-bad, sets-sets}
-use Rattle.refusal.specs.declared.Refusal.{Refusal}
 use Rattle.message.specs.declared.Header.{Header}
 use Rattle.message.specs.declared.Package.{Package}
+use Rattle.message.specs.declared.PackageRead.{PackageRead}
 use Rattle.message.specs.declared.PackageRead.the-variants as P
+use Rattle.message.proofs.PackageRead.{the-type}
 use Rattle.message.specs.Answers.{toldPackage}
 use Rattle.rules.specs.Walk.{packageAt}
 use Rattle.sheet.specs.declared.Row.{Row}
 use Rattle.sheet.specs.Rows.{someGrants}
 use Rattle.sheet.proofs.Granting.{search-is}
 use Rattle.release.specs.declared.Size.{Size}
-use Rattle.release.specs.Parts.{sheetOf, who, kept, payloadOf, withPackage, Sized, pieceAs, Placed, Stored, StoredRun}
+use Rattle.release.specs.Parts.{sheetOf, messageBy, kept, payloadOf, withPackage, Sized, pieceAs, Placed, Stored, StoredRun}
 use Rattle.release.proofs.Found.{Found, found, no-end, no-piece, id-is, delta-is, next-is, least, on, still, placed, piece-is, piece-length}
 
 -- ps, with p behind them if it is granted
@@ -64,9 +67,9 @@ module _ (rs : List Row) (n : ℕ) (h : Header) (run : List ℕ) (k : ℕ) (p : 
   abbrev asked : Bool
   asked = someGrants (take n rs) (h .id .0) (p .id .0) (packageTime (h .seconds) (h .nanos) (p .delta))
 
-  pub asked-is : asked ≡ granted (sheetOf rs n) (who h) (packageOf (f .c))
+  pub asked-is : asked ≡ granted (sheetOf rs n) (messageBy h) (packageOf (f .c))
   unfolding packageOf
-  asked-is = sym (rw (← id-is run k p f, ← delta-is run k p f) (search-is (take n rs) (who h) (packageOf (f .c))))
+  asked-is = sym (rw (← id-is run k p f, ← delta-is run k p f) (search-is (take n rs) (messageBy h) (packageOf (f .c))))
 
 -- ---- what both loops keep: the pieces before place k are done, and ps are the granted packages among them
 
@@ -77,25 +80,32 @@ pub record Keeping (rs : List rows.Row) (m : Message) (run : List ℕ) (ps : Lis
   pub are : kept rs m done ≡ ps
 
 module _ (rs : List Row) (n : ℕ) (h : Header) (run : List ℕ) where
-  keep-start : Keeping (sheetOf rs n) (who h) run [] 0
+  keep-start : Keeping (sheetOf rs n) (messageBy h) run [] 0
   unfolding kept grantedPackages
   keep-start = record { done = []; doing = doing-start piece run; inside = omega arith; are = refl }
 
-  module _ (ps : List rules.Package) (k : ℕ) (inv : Keeping (sheetOf rs n) (who h) run ps k) where
-    keep-ended : length run ≤ k → (cs : List (List ℕ)) → cut 0 run ≡ good cs → kept (sheetOf rs n) (who h) cs ≡ ps
+  module _ (ps : List rules.Package) (k : ℕ) (inv : Keeping (sheetOf rs n) (messageBy h) run ps k) where
+    keep-ended : length run ≤ k → (cs : List (List ℕ)) → cut 0 run ≡ good cs → kept (sheetOf rs n) (messageBy h) cs ≡ ps
     keep-ended l cs e = rw (good-inj (sym e ∙ doing-end piece run (inv .done) k (inv .doing) l)) (inv .are)
 
     -- a run that can be cut has no bad package
     keep-bad : k < length run → {w p : ℕ} → piece k (drop k run) ≡ bad w p → (cs : List (List ℕ)) → cut 0 run ≡ good cs → ⊥
     keep-bad l b cs e = good≢bad (sym (doing-bad piece run (inv .done) k (inv .doing) l b) ∙ e)
 
-    keep-next : k < length run → (p : Package) (f : Found run k p) (b : Bool) → b ≡ asked rs n h run k p f → Keeping (sheetOf rs n) (who h) run (grow b ps (packageOf (f .c))) (p .next)
+    keep-next : k < length run → (p : Package) (f : Found run k p) (b : Bool) → b ≡ asked rs n h run k p f → Keeping (sheetOf rs n) (messageBy h) run (grow b ps (packageOf (f .c))) (p .next)
     keep-next l p f b g = record {
       done = inv .done ++ (f .c ∷ []);
       doing = rw (← next-is run k p f) (doing-next piece run (inv .done) k (f .c) (f .n) (inv .doing) l (omega (arith, least run k p f)) (f .read));
       inside = still run k p f;
-      are = kept-snoc (sheetOf rs n) (who h) (inv .done) (f .c) ∙ rw (← g ∙ asked-is rs n h run k p f, inv .are);
+      are = kept-snoc (sheetOf rs n) (messageBy h) (inv .done) (f .c) ∙ rw (← g ∙ asked-is rs n h run k p f, inv .are);
     }
+
+-- what was read is no package: it has not the first variant
+abbrev pub NoPackage : PackageRead → Type 0
+NoPackage x = (tagOf the-type x ≡ 1) ⊎ (tagOf the-type x ≡ 2)
+
+no-package : (p : Package) → NoPackage (P.Package p) → ⊥
+no-package p o = ⊎-elim (λ a. let z : _≡_ {A = ℕ} 0 1 = a in omega (arith, z)) (λ a. let z : _≡_ {A = ℕ} 0 2 = a in omega (arith, z)) o
 
 -- ---- measuring
 
@@ -108,11 +118,11 @@ pub record Measuring (rs : List rows.Row) (m : Message) (run : List ℕ) (s : Si
   pub packages : s .packages ≡ length ps
 
 module _ (rs : List Row) (n : ℕ) (h : Header) (run : List ℕ) (short : length run ≤ 65536) where
-  pub start : Measuring (sheetOf rs n) (who h) run (record { bytes = 0; packages = 0 }) 0
+  pub start : Measuring (sheetOf rs n) (messageBy h) run (record { bytes = 0; packages = 0 }) 0
   start = record { ps = []; keeping = keep-start rs n h run; small = omega arith; few = omega arith; bytes = refl; packages = refl }
 
-  module _ (s : Size) (k : ℕ) (inv : Measuring (sheetOf rs n) (who h) run s k) where
-    pub ended : length run ≤ k → Sized (sheetOf rs n) (who h) run s
+  module _ (s : Size) (k : ℕ) (inv : Measuring (sheetOf rs n) (messageBy h) run s k) where
+    pub ended : length run ≤ k → Sized (sheetOf rs n) (messageBy h) run s
     ended l = record {
       small = omega (arith, inv .small, inv .keeping .inside);
       few = omega (arith, inv .few, inv .keeping .inside);
@@ -120,11 +130,10 @@ module _ (rs : List Row) (n : ℕ) (h : Header) (run : List ℕ) (short : length
     }
 
     module _ (l : k < length run) where
-      pub at-end : toldPackage P.End ≡ packageAt run k → Sized (sheetOf rs n) (who h) run s
-      at-end e = absurd (no-end run k short l e)
-
-      pub at-bad : (f : Refusal) → toldPackage (P.Refused f) ≡ packageAt run k → Sized (sheetOf rs n) (who h) run s
-      at-bad f e = record {
+      pub stopped : (x : PackageRead) → NoPackage x → toldPackage x ≡ packageAt run k → Sized (sheetOf rs n) (messageBy h) run s
+      stopped (P.Package p) o e = absurd (no-package p o)
+      stopped P.End o e = absurd (no-end run k short l e)
+      stopped (P.Refused f) o e = record {
         small = omega (arith, inv .small);
         few = omega (arith, inv .few);
         right = λ cs g. absurd (keep-bad rs n h run (inv .ps) k (inv .keeping) l (no-piece run k short l f e) cs g);
@@ -134,7 +143,7 @@ module _ (rs : List Row) (n : ℕ) (h : Header) (run : List ℕ) (short : length
         abbrev f : Found run k p
         f = found run k p e
 
-        pub next : (b : Bool) → b ≡ asked rs n h run k p f → Measuring (sheetOf rs n) (who h) run (withPackage s (p .next - k) b) (p .next)
+        pub next : (b : Bool) → b ≡ asked rs n h run k p f → Measuring (sheetOf rs n) (messageBy h) run (withPackage s (p .next - k) b) (p .next)
         next true g = record {
           ps = inv .ps ++ (packageOf (f .c) ∷ []);
           keeping = keep-next rs n h run (inv .ps) k (inv .keeping) l p f true g;
@@ -163,22 +172,21 @@ pub record Storing (rs : List rows.Row) (m : Message) (run before after : List �
   pub stored : after ≡ sets before to (payloadOf ps)
 
 module _ (rs : List Row) (n : ℕ) (h : Header) (run before : List ℕ) (to : ℕ) (short : length run ≤ 65536) where
-  pub store-start : Storing (sheetOf rs n) (who h) run before before to to 0
+  pub store-start : Storing (sheetOf rs n) (messageBy h) run before before to to 0
   store-start = record { ps = []; keeping = keep-start rs n h run; least = omega arith; most = omega arith; ends = sym (add-zero to); stored = refl }
 
-  module _ (after : List ℕ) (end k : ℕ) (inv : Storing (sheetOf rs n) (who h) run before after to end k) where
-    pub store-ended : length run ≤ k → StoredRun (sheetOf rs n) (who h) run before after to (end - to)
+  module _ (after : List ℕ) (end k : ℕ) (inv : Storing (sheetOf rs n) (messageBy h) run before after to end k) where
+    pub store-ended : length run ≤ k → StoredRun (sheetOf rs n) (messageBy h) run before after to (end - to)
     store-ended l = record {
       small = omega (arith, inv .most, inv .keeping .inside);
       right = λ cs e. rw (keep-ended rs n h run (inv .ps) k (inv .keeping) l cs e) (omega (arith, inv .ends), inv .stored);
     }
 
     module _ (l : k < length run) where
-      pub store-at-end : toldPackage P.End ≡ packageAt run k → StoredRun (sheetOf rs n) (who h) run before after to (end - to)
-      store-at-end e = absurd (no-end run k short l e)
-
-      pub store-at-bad : (f : Refusal) → toldPackage (P.Refused f) ≡ packageAt run k → StoredRun (sheetOf rs n) (who h) run before after to (end - to)
-      store-at-bad f e = record {
+      pub store-stopped : (x : PackageRead) → NoPackage x → toldPackage x ≡ packageAt run k → StoredRun (sheetOf rs n) (messageBy h) run before after to (end - to)
+      store-stopped (P.Package p) o e = absurd (no-package p o)
+      store-stopped P.End o e = absurd (no-end run k short l e)
+      store-stopped (P.Refused f) o e = record {
         small = omega (arith, inv .most, inv .keeping .inside);
         right = λ cs g. absurd (keep-bad rs n h run (inv .ps) k (inv .keeping) l (no-piece run k short l f e) cs g);
       }
@@ -191,7 +199,7 @@ module _ (rs : List Row) (n : ℕ) (h : Header) (run before : List ℕ) (to : �
         store-placed = placed run k p f′ short
 
         pub store-next : (b : Bool) → b ≡ asked rs n h run k p f′ → (out : List ℕ) (r : ℕ)
-            → Stored after out end r b (pieceAs run p) (p .next - k) → Storing (sheetOf rs n) (who h) run before out to r (p .next)
+            → Stored after out end r b (pieceAs run p) (p .next - k) → Storing (sheetOf rs n) (messageBy h) run before out to r (p .next)
         store-next true g out r w = record {
           ps = inv .ps ++ (packageOf (f′ .c) ∷ []);
           keeping = keep-next rs n h run (inv .ps) k (inv .keeping) l p f′ true g;

@@ -24,7 +24,7 @@ use Rattle.rules.specs.Reading.{messageAt}
 use Rattle.release.specs.declared.Size.{Size}
 use Rattle.release.specs.declared.Totals.{Totals}
 use Rattle.release.specs.declared.Measured.the-variants as Measure
-use Rattle.release.specs.Parts.{who, withEntry, Sized, entered}
+use Rattle.release.specs.Parts.{messageBy, withEntry, Sized, entered}
 use Rattle.release.specs.Told.{totals, measured, toldMeasure}
 use Rattle.release.proofs.Entries.{Met, met, no-message, it, order, inside, behind, run-length, cut-is, ps, grown, totals-grown, one-more}
 
@@ -68,7 +68,7 @@ module _ (rs : List rows.Row) (recordingBytes : List ℕ) (short : length record
         abbrev g : Met recordingBytes k m
         g = met recordingBytes k m e
 
-        pub tally-next : (s : Size) → Sized rs (who (m .header)) (take (m .next - m .payload) (drop (m .payload) recordingBytes)) s → Tallying rs recordingBytes (withEntry t s) (m .next)
+        pub tally-next : (s : Size) → Sized rs (messageBy (m .header)) (take (m .next - m .payload) (drop (m .payload) recordingBytes)) s → Tallying rs recordingBytes (withEntry t s) (m .next)
         tally-next s z =
             let (b, p) = z .right (g .r .1) (cut-is recordingBytes k m g) in
             record {

@@ -1,12 +1,14 @@
 // The copy: what a recording releases under an order sheet. One pass measures and finds every refusal; the second writes.
 ghost use mathlib.Core.Path.{_≡_};
-ghost use Prim.Native.Nat.{_-_, _≤_};
+ghost use mathlib.Core.List.{[]};
+ghost use Prim.Native.Nat.{_+_, _-_, _≤_};
 ghost use lib.ListN.{length, take};
 ghost use lib.Seq.{sets};
+ghost use Rattle.rules.specs.Bytes.{put32};
 ghost use Rattle.rules.specs.Packages.{packageTime};
 ghost use Rattle.rules.specs.Copy.{count, copy};
 ghost use Rattle.sheet.specs.Rows.{someGrants};
-ghost use Rattle.release.specs.Parts.{sheetOf, who, Sized, withPackage, withEntry, Placed, pieceAs, Stored, StoredRun, headBytes, Place, heldWith};
+ghost use Rattle.release.specs.Parts.{sheetOf, messageBy, Sized, withPackage, withEntry, Placed, pieceAs, Stored, StoredRun, headBytes, Place, heldWith, Ready, Delivered};
 ghost use Rattle.release.specs.Told.{toldMeasure, measured, Wrote, told};
 use message::Header;
 use message::MessageRead;
@@ -21,8 +23,6 @@ use sheet::Row;
 use sheet::SheetAnswer;
 use sheet::in_sheet;
 use sheet::read_sheet;
-use wire::put_byte;
-use wire::put_half;
 use wire::put_part;
 use wire::put_word;
 use wire::put_zeros;
@@ -58,7 +58,7 @@ fn with_package(s: Size, n: usize, granted: bool) -> Size
 
 fn measure_packages(run: &[u8], h: Header, rows: [Row; 32], n: usize) -> Size
     requires { ⌜ length (now run) ≤ 65536 ⌝ }
-    ensures { λ r. ⌜ Sized (sheetOf rows n) (who h) (now (run .entry)) r ⌝ }
+    ensures { λ r. ⌜ Sized (sheetOf rows n) (messageBy h) (now (run .entry)) r ⌝ }
 {
     let mut size = Size {
         bytes: 0,
@@ -67,19 +67,12 @@ fn measure_packages(run: &[u8], h: Header, rows: [Row; 32], n: usize) -> Size
     let mut at = 0;
     while at < run.len() {
         let found = package_at(run, at);
-        match found {
-            PackageRead::Package(p) => {
-                let next = p.next;
-                size = with_package(size, next - at, is_granted(h, p, rows, n));
-                at = next;
-            }
-            PackageRead::End => {
-                return size;
-            }
-            PackageRead::Refused(_) => {
-                return size;
-            }
-        }
+        let PackageRead::Package(p) = found else {
+            return size;
+        };
+        let next = p.next;
+        size = with_package(size, next - at, is_granted(h, p, rows, n));
+        at = next;
     }
     size
 }
@@ -146,20 +139,27 @@ fn measure(recording: &[u8], rows: [Row; 32], n: usize) -> Measured
     Measured::Fits(totals)
 }
 
+// Stores two words, one behind the other.
+fn put_words(out: &mut [u8], at: usize, first: u32, second: u32)
+    requires { ⌜ at ≤ 262144 ⌝ }
+    ensures { λ _. ⌜ now (out .exit) ≡ sets (now (out .entry)) at (put32 first (put32 second [])) ⌝ }
+{
+    put_word(out, at, first);
+    put_word(out, at + 4, second);
+}
+
 // Stores package p of a run from `at` on, reserved byte and padding zero.
 fn write_package(run: &[u8], p: Package, out: &mut [u8], at: usize)
     requires { ⌜ (at ≤ 262144) × Placed (now run) 0 p ⌝ }
     ensures { λ _. ⌜ now (out .exit) ≡ sets (now (out .entry)) at (pieceAs (now (run .entry)) p) ⌝ }
 {
-    let from = p.from;
-    let to = p.to;
-    put_word(out, at, p.id.0);
-    put_half(out, at + 4, p.length);
-    put_byte(out, at + 6, 0);
-    put_byte(out, at + 7, p.status);
+    // The length, a zero and the status are the second word.
+    let second = p.length as u32 * 65536 + p.status as u32;
+    let content = p.to - p.from;
+    put_words(out, at, p.id.0, second);
     put_word(out, at + 8, p.delta);
-    put_part(out, at + 12, run, from, to - from);
-    put_zeros(out, at + 12 + (to - from), p.next - to);
+    put_part(out, at + 12, run, p.from, content);
+    put_zeros(out, at + 12 + content, p.next - p.to);
 }
 
 // Stores it, if it is granted. It takes the bytes from place k of the run on.
@@ -191,25 +191,18 @@ fn write_packages(
     to: usize,
 ) -> usize
     requires { ⌜ (length (now run) ≤ 65536) × (to ≤ 131072) ⌝ }
-    ensures { λ r. ⌜ StoredRun (sheetOf rows n) (who h) (now (run .entry)) (now (out .entry)) (now (out .exit)) to r ⌝ }
+    ensures { λ r. ⌜ StoredRun (sheetOf rows n) (messageBy h) (now (run .entry)) (now (out .entry)) (now (out .exit)) to r ⌝ }
 {
     let mut end = to;
     let mut at = 0;
     while at < run.len() {
         let found = package_at(run, at);
-        match found {
-            PackageRead::Package(p) => {
-                let behind = p.next;
-                end = write_granted(run, at, p, is_granted(h, p, rows, n), out, end);
-                at = behind;
-            }
-            PackageRead::End => {
-                return end - to;
-            }
-            PackageRead::Refused(_) => {
-                return end - to;
-            }
-        }
+        let PackageRead::Package(p) = found else {
+            return end - to;
+        };
+        let behind = p.next;
+        end = write_granted(run, at, p, is_granted(h, p, rows, n), out, end);
+        at = behind;
     }
     end - to
 }
@@ -249,52 +242,62 @@ fn write_head(out: &mut [u8], at: usize, h: Header, sequence: u32, size: u32)
     requires { ⌜ at ≤ 65536 ⌝ }
     ensures { λ _. ⌜ now (out .exit) ≡ sets (now (out .entry)) at (headBytes h sequence size) ⌝ }
 {
-    put_byte(out, at, 16);
-    put_half(out, at + 1, 0);
-    put_byte(out, at + 3, 192 + h.flags / 2 % 8 * 2);
-    put_word(out, at + 4, h.id.0);
-    put_word(out, at + 8, sequence);
-    put_word(out, at + 12, size);
-    put_word(out, at + 16, h.seconds);
-    put_word(out, at + 20, h.nanos);
+    // Version 1 and no options, two zeros and the flags are the first word.
+    let flags = 192 + h.flags / 2 % 8 * 2;
+    put_words(out, at, 0x10_00_00_00 + flags as u32, h.id.0);
+    put_words(out, at + 8, sequence, size);
+    put_words(out, at + 16, h.seconds, h.nanos);
 }
 
-// Writes the copy of a recording that passes: of a message its packages first, and its header before them once there is one.
-// The first `held` of ids are the ids delivered so far, each once, and beside each is its next sequence number.
+// Where the copy ends so far, and how many ids it has delivered.
+struct Reached {
+    to: usize,
+    held: usize,
+}
+
+// Ends a message whose granted packages are stored, in so many bytes: stores its header before them, if there is one.
+// The first `held` of seen are the ids delivered so far, each once, and 1,820 places behind each is its next sequence number.
+fn deliver(out: &mut [u8], h: Header, bytes: usize, seen: &mut [u32], done: Reached) -> Reached
+    requires { ⌜ (done .to + (24 + bytes) ≤ 65536) × Ready (now seen) (done .held) (h .id .0) ⌝ }
+    ensures { λ r. ⌜ Delivered h bytes (now (out .entry)) (now (out .exit)) (now (seen .entry)) (now (seen .exit)) done r ⌝ }
+{
+    if bytes == 0 {
+        return done;
+    }
+    let size = 24 + bytes;
+    let held = done.held;
+    let place = place_of(&seen[..held], h.id.0);
+    let beside = 1820 + place;
+    let sequence = seen[beside];
+    write_head(out, done.to, h, sequence, size as u32);
+    seen[place] = h.id.0;
+    seen[beside] = sequence + 1;
+    Reached {
+        to: done.to + size,
+        held: held_with(held, place),
+    }
+}
+
+// Writes the copy of a recording that passes: of a message its packages first, behind the place of its header.
 fn write(recording: &[u8], rows: [Row; 32], n: usize, out: &mut [u8])
     requires { ⌜ length (now recording) ≤ 65536 ⌝ }
     ensures { λ _. ⌜ Wrote (sheetOf rows n) (now (recording .entry)) (now (out .entry)) (now (out .exit)) ⌝ }
 {
     // A message with a package has 36 bytes at least, so a recording has at most 1,820 of them.
-    let mut ids = [0u32; 1820];
-    let mut numbers = [0u32; 1820];
-    let mut held = 0;
-    let mut to = 0;
+    let mut seen = [0u32; 3640];
+    let mut reached = Reached { to: 0, held: 0 };
     let mut at = 0;
     while at < recording.len() {
         let found = message_at(recording, at);
-        match found {
-            MessageRead::Message(m) => {
-                let from = m.payload;
-                let next = m.next;
-                let h = m.header;
-                let bytes = write_packages(&recording[from..next], h, rows, n, out, to + 24);
-                if bytes != 0 {
-                    let id = h.id.0;
-                    let place = place_of(&ids[..held], id);
-                    let sequence = numbers[place];
-                    write_head(out, to, h, sequence, (24 + bytes) as u32);
-                    ids[place] = id;
-                    numbers[place] = sequence + 1;
-                    held = held_with(held, place);
-                    to += 24 + bytes;
-                }
-                at = next;
-            }
-            MessageRead::Refused(_) => {
-                return;
-            }
-        }
+        let MessageRead::Message(m) = found else {
+            return;
+        };
+        let from = m.payload;
+        let next = m.next;
+        let h = m.header;
+        let bytes = write_packages(&recording[from..next], h, rows, n, out, reached.to + 24);
+        reached = deliver(out, h, bytes, &mut seen, reached);
+        at = next;
     }
 }
 
