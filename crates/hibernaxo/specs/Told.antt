@@ -1,5 +1,5 @@
 -- What each export hands back, by the rules' answer: the refusal number, which it returns; the values, the place first; and the lent buffer as it is left, where one is lent.
-use Prim.Native.Nat.{ℕ, _-_}
+use Prim.Native.Nat.{ℕ, _+_, _-_, _*_}
 use mathlib.Core.List.{List, [], _∷_, map}
 use mathlib.Core.Option.{Option, none, some}
 use lib.ListN.{replicate}
@@ -10,7 +10,7 @@ use Rattle.rules.specs.Message.{Head, headerBytes}
 use Rattle.rules.specs.Walk.{PackageSpot}
 use Rattle.rules.specs.Buffer.{Written}
 use Rattle.rules.specs.Writer.{Draft}
-use Rattle.rules.specs.Sheet.{Row}
+use Rattle.rules.specs.Sheet.{Row, mostRows}
 use Rattle.rules.specs.Copy.{Answer}
 use Rattle.rules.specs.Burst.{Randomized, Opened}
 
@@ -50,7 +50,7 @@ abbrev pub rowValues : Row → List ℕ
 rowValues r = r .firstMessage ∷ r .lastMessage ∷ r .firstPackage ∷ r .lastPackage ∷ r .startSeconds ∷ r .startNanos ∷ r .endSeconds ∷ r .endNanos ∷ []
 
 abbrev pub sheetTold : Outcome (List Row × ℕ) → ℕ × List ℕ
-sheetTold (bad n p) = (n, refusedAt p 257)
+sheetTold (bad n p) = (n, refusedAt p (1 + 8 * mostRows))
 sheetTold (good (rows, count)) = (0, 0 ∷ count ∷ join (map rowValues rows))
 
 -- a copy: bytes, messages and packages
