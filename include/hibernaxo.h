@@ -28,7 +28,7 @@ enum hibernaxo_refusal {
     HIBERNAXO_LENGTH = 4,    /* the length is below 24 + 4 W or no multiple of 4: the message */
     HIBERNAXO_CUT = 5,       /* the length is above the bytes left: the message */
     HIBERNAXO_TIME = 6,      /* more than 999,999,999 nanoseconds: the message; 0 in the writer */
-    HIBERNAXO_OPTION = 7,    /* the first option against the rules, in the writer also one of kind 0x00: the option; 60 for its run above 60 bytes */
+    HIBERNAXO_OPTION = 7,    /* the first bad option, in the writer also one of kind 0x00: the option; 60 for its run above 60 bytes */
     HIBERNAXO_FRAGMENT = 8,  /* flag bits 5-4 are not 00: the message */
     HIBERNAXO_STANDARD = 9,  /* flag bit 7 is 1 with no payload, or 0 with one: the message */
     HIBERNAXO_PACKAGE = 10,  /* a package that its header or the bytes left do not allow: the package */

@@ -1,6 +1,6 @@
 // The exports for C, Rust and Python: a function for each entry point that document 01 names on the bench, over numbers, slices and
-// arrays alone. Each returns the refusal number, 0 for success, and stores place and values into a lent array on every call, the place first. The definitions ..Told say
-// what comes back; include/hibernaxo.h says it to a caller.
+// arrays alone. Each returns the refusal number, 0 for success, and stores place and values into a lent array on every call, the
+// place first. The definitions ..Told say what comes back; include/hibernaxo.h says it to a caller.
 use burst::Opened;
 use burst::Randomized;
 use compose::Record;
