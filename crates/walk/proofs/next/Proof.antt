@@ -70,7 +70,6 @@ use Rattle.walk.proofs.next.Key.{name as #walk·next}
 use Rattle.walk.proofs.next as next
 use Rattle.walk.proofs.next.Statement as stated
 use Rattle.walk.proofs.next.Code as code
-use Rattle.walk.proofs.next.Code.Mir as mir
 
 abbrev B : Lfts 1 → RattleType
 B κs = T.the-row (namedLft 1 0 tt κs)
