@@ -1,6 +1,6 @@
 -- The packages of one message: what the two loops over a run keep.
 use Prim.Native.Nat.{ℕ, _+_, _-_, _≤_, _<_}
-use mathlib.Core.Path.{_≡_, refl, sym, ap, _∙_}
+use mathlib.Core.Path.{_≡_, refl, sym, _∙_}
 use mathlib.Core.Logic.{_⊎_, ⊎-elim}
 use mathlib.Core.Bool.{Bool, true, false}
 use mathlib.Core.List.{List, [], _∷_, _++_, map, append-nil}
@@ -16,7 +16,7 @@ use Rattle.rules.specs.Message.{Message}
 use Rattle.rules.specs.Sheet as rows
 use Rattle.rules.specs.Copy.{granted, grantedPackages}
 use Rattle.rules.proofs.Outcomes.{good-inj, good≢bad}
-use Rattle.rules.proofs.Growing.{join-append, map-append}
+use Rattle.rules.proofs.Growing.{join-append, map-append, granted-append}
 use Rattle.rules.proofs.Loops.{Doing, doing-start, doing-next, doing-end, doing-bad, sets-sets}
 use Rattle.message.specs.declared.Header.{Header}
 use Rattle.message.specs.declared.Package.{Package}
@@ -40,19 +40,11 @@ grow false ps p = ps
 module _ (rs : List rows.Row) (m : Message) where
   granteds-snoc : (ps : List rules.Package) (p : rules.Package) → grantedPackages rs m (ps ++ (p ∷ [])) ≡ grow (granted rs m p) (grantedPackages rs m ps) p
   unfolding grantedPackages
-  granteds-snoc [] p = go (granted rs m p)
+  granteds-snoc ps p = granted-append rs m ps (p ∷ []) ∙ go (granted rs m p)
     where
-      go : (b : Bool) → elim b [ true ↦ p ∷ [] | false ↦ [] ] ≡ grow b [] p
+      go : (b : Bool) → grantedPackages rs m ps ++ elim b [ true ↦ p ∷ [] | false ↦ [] ] ≡ grow b (grantedPackages rs m ps) p
       go true = refl
-      go false = refl
-  granteds-snoc (q ∷ ps) p = go (granted rs m q) (granted rs m p) (granteds-snoc ps p)
-    where
-      go : (b c : Bool) → grantedPackages rs m (ps ++ (p ∷ [])) ≡ grow c (grantedPackages rs m ps) p
-          → elim b [ true ↦ q ∷ grantedPackages rs m (ps ++ (p ∷ [])) | false ↦ grantedPackages rs m (ps ++ (p ∷ [])) ]
-          ≡ grow c (elim b [ true ↦ q ∷ grantedPackages rs m ps | false ↦ grantedPackages rs m ps ]) p
-      go true true e = ap (λ (l : List rules.Package). q ∷ l) e
-      go true false e = ap (λ (l : List rules.Package). q ∷ l) e
-      go false c e = e
+      go false = append-nil _
 
   kept-snoc : (cs : List (List ℕ)) (c : List ℕ) → kept rs m (cs ++ (c ∷ [])) ≡ grow (granted rs m (packageOf c)) (kept rs m cs) (packageOf c)
   unfolding kept

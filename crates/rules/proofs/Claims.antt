@@ -12,9 +12,10 @@ use Rattle.rules.specs.Reading.{header, optionRun}
 use Rattle.rules.specs.Buffer.{fitted}
 use Rattle.rules.specs.Writer.{written, writer}
 use Rattle.rules.specs.Clean.{cleanForm, cleaner}
+use Rattle.rules.specs.Sheet.{Row}
 use Rattle.rules.specs.Copy.{releasedOf, roomFor, answered, copy}
 use Rattle.rules.specs.Burst.{randomized, opening, randomizer, opener}
-use Rattle.rules.specs.Claims.{BuffersKept, WrittenRead, AcceptedValid, ReadValid, ReadWritten, PartsWritten, WriterWrites, CleanerWrites, RoomRefused, SpotOfRecord, SpotExactly, CleanAlone, CleanTwice, CleanExactly, PackageExactly, PackagePlace, CutExactly, WalkShowsAll, WalkStays, GrantedExactly, Recurrence, BitPeriod, TableEntry, RandomizedTwice, RandomizedByte, BurstExactly, SameCopies, DifferentCopies, CountsReleased, SequenceCounted, ReleasedEach, CopyRead, CopyNotLonger, CopyPlain, OneOutcome, partsOf}
+use Rattle.rules.specs.Claims.{BuffersKept, WrittenRead, AcceptedValid, ReadValid, ReadWritten, PartsWritten, WriterWrites, CleanerWrites, RoomRefused, SpotOfRecord, SpotExactly, CleanAlone, CleanTwice, CleanExactly, PackageExactly, PackagePlace, CutExactly, WalkShowsAll, WalkStays, GrantedExactly, Recurrence, BitPeriod, TableEntry, RandomizedTwice, RandomizedByte, BurstExactly, SameCopies, DifferentCopies, CountsReleased, SequenceCounted, ReleasedExactly, CopyRead, CopyNotLonger, CopyPlain, OneOutcome, partsOf}
 use Rattle.rules.proofs.Outcomes.{pass, step, stepped, good-inj}
 use Rattle.rules.proofs.Kept.{careful-stored, careful-answered, kept-randomized, kept-opened, writes, roomless}
 use Rattle.rules.proofs.Cut as Cut
@@ -29,7 +30,7 @@ use Rattle.rules.proofs.Sequence as Sequence
 use Rattle.rules.proofs.Bursts.{randomizer-is, burst-exactly}
 use Rattle.rules.specs.Table.{Table}
 use Rattle.rules.proofs.Table.{table}
-use Rattle.rules.proofs.Growing.{copyMessages-snoc, released-append}
+use Rattle.rules.proofs.Growing.{copyMessages-snoc, released-append, granted-append, granted-one, granted-none, released-entry, released-none}
 use Rattle.rules.proofs.Interference.{copy-is, copy-roomless, delivered-is, same-list, copy-read, copy-short, copy-plain}
 use Rattle.rules.proofs.Spots.{of-record, spot-read, spot-refused}
 use native.Mathlib.Nat.{zero-add, add-zero}
@@ -172,8 +173,15 @@ counts-released recording sheet buffer es r l =
 pub sequence-counted : SequenceCounted
 sequence-counted = copyMessages-snoc
 
-pub released-each : ReleasedEach
-released-each = released-append
+pub released-exactly : (rows : List Row) → ReleasedExactly rows
+released-exactly rows = record {
+  messages = released-append rows;
+  packages = granted-append rows;
+  one = granted-one rows;
+  none = granted-none rows;
+  entry = released-entry rows;
+  silent = released-none rows;
+}
 
 pub copy-is-read : CopyRead
 copy-is-read = copy-read

@@ -1,5 +1,5 @@
 -- How the released list and the copy grow, message by message: what the loop of the copy keeps.
-use Prim.Native.Nat.{ℕ, suc, _+_}
+use Prim.Native.Nat.{ℕ, suc, _+_, _*_, _/_, _%_}
 use mathlib.Core.Path.{_≡_, refl, ap, _∙_}
 use mathlib.Core.Bool.{Bool, true, false}
 use mathlib.Core.List.{List, [], _∷_, _++_, map, append-nil, append-assoc}
@@ -11,7 +11,7 @@ use Rattle.rules.specs.Packages.{Package}
 use Rattle.rules.specs.Message.{Message}
 use Rattle.rules.specs.Writer.{write}
 use Rattle.rules.specs.Sheet.{Row}
-use Rattle.rules.specs.Copy.{Entry, grantedPackages, withEntryOf, released, count, copyMessage, copyMessages, copyBytes}
+use Rattle.rules.specs.Copy.{granted, Entry, grantedPackages, withEntryOf, released, count, copyMessage, copyMessages, copyBytes}
 
 -- the message id of an entry
 abbrev pub idOf : Entry → ℕ
@@ -31,6 +31,36 @@ withEntryOf-append : (m : Message) (ps : List Package) (es fs : List Entry) → 
 unfolding withEntryOf
 withEntryOf-append m [] es fs = refl
 withEntryOf-append m (p ∷ ps) es fs = refl
+
+pub granted-append : (rs : List Row) (m : Message) (ks ls : List Package) → grantedPackages rs m (ks ++ ls) ≡ grantedPackages rs m ks ++ grantedPackages rs m ls
+unfolding grantedPackages
+granted-append rs m [] ls = refl
+granted-append rs m (k ∷ ks) ls = go (granted rs m k) (granted-append rs m ks ls)
+  where
+    go : (b : Bool) → grantedPackages rs m (ks ++ ls) ≡ grantedPackages rs m ks ++ grantedPackages rs m ls
+        → elim b [ true ↦ k ∷ grantedPackages rs m (ks ++ ls) | false ↦ grantedPackages rs m (ks ++ ls) ]
+        ≡ elim b [ true ↦ k ∷ grantedPackages rs m ks | false ↦ grantedPackages rs m ks ] ++ grantedPackages rs m ls
+    go true e = rw e
+    go false e = e
+
+-- what one message releases
+module _ (rs : List Row) (m : Message) where
+  pub granted-one : (k : Package) → granted rs m k ≡ true → grantedPackages rs m (k ∷ []) ≡ k ∷ []
+  unfolding grantedPackages
+  granted-one k e = rw (e, grantedPackages)
+
+  pub granted-none : (k : Package) → granted rs m k ≡ false → grantedPackages rs m (k ∷ []) ≡ []
+  unfolding grantedPackages
+  granted-none k e = rw (e, grantedPackages)
+
+  pub released-entry : (k : Package) (ks : List Package) → grantedPackages rs m (m .packages) ≡ k ∷ ks
+      → released rs (m ∷ []) ≡ record { id = m .id; seconds = m .seconds; nanos = m .nanos; flags = m .flags / 2 % 8 * 2; packages = k ∷ ks } ∷ []
+  unfolding released withEntryOf
+  released-entry k ks e = ap (λ (ps : List Package). withEntryOf m ps []) e
+
+  pub released-none : grantedPackages rs m (m .packages) ≡ [] → released rs (m ∷ []) ≡ []
+  unfolding released withEntryOf
+  released-none e = ap (λ (ps : List Package). withEntryOf m ps []) e
 
 pub released-append : (rs : List Row) (ms ns : List Message) → released rs (ms ++ ns) ≡ released rs ms ++ released rs ns
 unfolding released

@@ -17,7 +17,7 @@ use Rattle.rules.specs.Writer.{write, Draft, accepted, written, writer}
 use Rattle.rules.specs.Clean.{cleanForm, cleaner}
 use Rattle.rules.specs.Valid.{Valid, DraftFits}
 use Rattle.rules.specs.Sheet.{Row}
-use Rattle.rules.specs.Copy.{granted, Entry, released, count, copyMessage, copyMessages, copyBytes, packagesIn, releasedOf, copy, delivered}
+use Rattle.rules.specs.Copy.{granted, Entry, grantedPackages, released, count, copyMessage, copyMessages, copyBytes, packagesIn, releasedOf, copy, delivered}
 use Rattle.rules.specs.Burst.{_xor_, bit, sequenceByte, sequenceBytes, randomized, randomizer, marker, blockSize, mostBlocks, opening, opener}
 
 -- ---- Demand 1: a refusal changes no byte of the caller's buffers, and what is written changes none behind it.
@@ -54,15 +54,7 @@ ReadWritten = (s : List ℕ) → Bytes s → (m : Message) (n : ℕ) → message
 
 -- The parts of a message that was read, handed to the writer as they stand in its bytes, give its clean form.
 abbrev pub partsOf : List ℕ → Head → Draft
-partsOf s h = record {
-  flags = h .flags;
-  id = h .id;
-  sequence = h .sequence;
-  seconds = h .seconds;
-  nanos = h .nanos;
-  options = optionRun s;
-  packages = payload s h;
-}
+partsOf s h = record { flags = h .flags; id = h .id; sequence = h .sequence; seconds = h .seconds; nanos = h .nanos; options = optionRun s; packages = payload s h }
 
 abbrev pub PartsWritten : Type 0
 PartsWritten = (s : List ℕ) → Bytes s → length s ≤ mostBytes → (m : Message) (n : ℕ) → message 0 s ≡ good (m, n) → written (partsOf s (head s)) ≡ cleanForm s
@@ -207,9 +199,16 @@ CountsReleased = (recording sheet buffer : List ℕ) (es : List Entry) → relea
 abbrev pub SequenceCounted : Type 0
 SequenceCounted = (before : List Entry) (e : Entry) → copyMessages [] (before ++ (e ∷ [])) ≡ copyMessages [] before ++ (copyMessage (count (e .id) (map (λ (x : Entry). x .id) before)) e ∷ [])
 
--- The released list goes message by message: what a message releases depends on no other.
-abbrev pub ReleasedEach : Type 0
-ReleasedEach = (rows : List Row) (ms ns : List Message) → released rows (ms ++ ns) ≡ released rows ms ++ released rows ns
+-- The released list goes message by message, and a message's packages one by one: exactly the granted ones, in order. A message with one has an entry
+-- with its id, its time, bits 3, 2 and 1 of its flags and its granted packages; one without has none.
+pub record ReleasedExactly (rows : List Row) : Type 0 where
+  pub messages : (ms ns : List Message) → released rows (ms ++ ns) ≡ released rows ms ++ released rows ns
+  pub packages : (m : Message) (ks ls : List Package) → grantedPackages rows m (ks ++ ls) ≡ grantedPackages rows m ks ++ grantedPackages rows m ls
+  pub one : (m : Message) (k : Package) → granted rows m k ≡ true → grantedPackages rows m (k ∷ []) ≡ k ∷ []
+  pub none : (m : Message) (k : Package) → granted rows m k ≡ false → grantedPackages rows m (k ∷ []) ≡ []
+  pub entry : (m : Message) (k : Package) (ks : List Package) → grantedPackages rows m (m .packages) ≡ k ∷ ks
+      → released rows (m ∷ []) ≡ record { id = m .id; seconds = m .seconds; nanos = m .nanos; flags = m .flags / 2 % 8 * 2; packages = k ∷ ks } ∷ []
+  pub silent : (m : Message) → grantedPackages rows m (m .packages) ≡ [] → released rows (m ∷ []) ≡ []
 
 -- The copy is its messages, one behind the other, and is read as such.
 abbrev pub CopyRead : Type 0
