@@ -11,7 +11,7 @@ use Rattle.refusal.specs.declared.Why.{Why}
 use Rattle.refusal.specs.declared.Why.the-variants.{Short, Version, Kind, Length, Cut, Time, Option, Fragment, Standard, Package, Row, Large, Room, Marker, Blocks}
 use Rattle.refusal.specs.declared.Refusal.{Refusal}
 
--- the case that has a number: the table's rows in their order
+-- the case that has a number: the table's cases by their numbers, the first one where the table leaves a number out
 whyOf : ℕ → Why
 whyOf n = getD (Short ∷ Version ∷ Kind ∷ Length ∷ Cut ∷ Time ∷ Option ∷ Fragment ∷ Standard ∷ Package ∷ Row ∷ Large ∷ Room ∷ Marker ∷ Blocks ∷ []) (n - 1) Short
 
