@@ -1,7 +1,9 @@
 // Headers, option runs and recordings.
 use message::Checked;
+use message::Count;
 use message::Header;
 use message::HeaderRead;
+use message::MessageRead;
 ghost use Prim.Native.Nat.{_≤_};
 
 // W, flags, message id, sequence number, length, seconds and nanoseconds.
@@ -40,6 +42,50 @@ fn checked(s: &[u8]) {
         }
     }
     crate::end();
+}
+
+// Number, place, the header's fields, where the payload and the next message begin, and how many packages there are, of the message at a
+// place of M.
+fn message_at(at: usize) {
+    let m = crate::message_m();
+    match message::message_at(&m, at) {
+        MessageRead::Message(k) => {
+            crate::two_zeros();
+            let h = k.header;
+            fields(h);
+            crate::number(k.payload);
+            crate::number(k.next);
+            crate::number(k.packages);
+        }
+        MessageRead::Refused(x) => {
+            crate::refusal(x);
+        }
+    }
+    crate::end();
+}
+
+// Number, place and the number told.
+fn count(c: Count) {
+    match c {
+        Count::Number(n) => {
+            crate::two_zeros();
+            crate::number(n);
+        }
+        Count::Refused(x) => {
+            crate::refusal(x);
+            crate::number(0);
+        }
+    }
+    crate::end();
+}
+
+// A bare option run, and a bare run of packages, of so many bytes 0x20.
+fn bare_runs(bytes: usize)
+    requires { ⌜ bytes ≤ 65537 ⌝ }
+{
+    let s = crate::long();
+    count(message::option_run_length(&s[0..bytes]));
+    count(message::count_packages(&s[0..bytes]));
 }
 
 // The header of M's first so many bytes.
@@ -105,4 +151,11 @@ pub fn reading() {
     // Flags 0090 and 0000: FRAGMENT and STANDARD.
     with(0, 0x10000090);
     with(0, 0x10000000);
+    // M at its place; behind its end, and further behind, SHORT.
+    message_at(0);
+    message_at(56);
+    message_at(57);
+    // Each byte is an option; as a package's L they are 8,224, of which seven fit into 65,536 bytes. One byte more is LARGE.
+    bare_runs(65536);
+    bare_runs(65537);
 }

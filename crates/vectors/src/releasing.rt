@@ -1,4 +1,6 @@
 // Order sheets and the copy.
+use message::Mdid;
+use message::Pdid;
 use release::Copied;
 use sheet::Row;
 use sheet::SheetAnswer;
@@ -47,6 +49,33 @@ fn sheet_r(last: u8, count: usize)
     sheet(&r[0..count]);
 }
 
+// Two rows, R and R with this last byte: number, place and how many rows; and the second row and the last.
+fn two_rows(last: u8) {
+    let mut two = [0u8; 64];
+    let r = row_r();
+    wire::put_part(&mut two, 0, &r, 0, 32);
+    wire::put_part(&mut two, 32, &r, 0, 32);
+    wire::put_byte(&mut two, 63, last);
+    let read = sheet::read_sheet(&two);
+    let answer = read.answer;
+    told(answer);
+    crate::number(read.count);
+    let rows = read.rows;
+    row(rows[1]);
+    row(rows[31]);
+    crate::end();
+}
+
+// Whether one of the first `count` rows of R's sheet grants package 1 of a message at 100 s.
+fn granted(count: usize, message: u32) {
+    let r = row_r();
+    let read = sheet::read_sheet(&r[0..32]);
+    let rows = read.rows;
+    let yes = sheet::in_sheet(rows, count, Mdid(message), Pdid(1), 100_000_000_000);
+    crate::number(if yes { 1 } else { 0 });
+    crate::end();
+}
+
 // Number, place, bytes, messages and packages; and the buffer.
 fn copied(recording: &[u8], sheet: &[u8], out: &mut [u8]) {
     match release::copy(recording, sheet, out) {
@@ -80,6 +109,14 @@ pub fn releasing() {
     sheet_r(0x00, 32);
     sheet_r(0x00, 33);
     sheet_r(0x01, 32);
+    // Two rows are read; where the second is refused, all rows are zero.
+    two_rows(0x00);
+    two_rows(0x01);
+    // R's sheet has one row: none of no rows grants, and above 32 all rows are asked.
+    granted(0, 7);
+    granted(1, 7);
+    granted(33, 7);
+    granted(33, 8);
     // P1 and P10; a buffer of 44 bytes keeps its last four, and one of 39 is ROOM, 40.
     under_r(0, 32, 44);
     under_r(56, 32, 44);

@@ -15,8 +15,8 @@ fn none() {
     crate::four(0, 0, 0, 0);
 }
 
-// The package or none, the walk's next place, and the data shown.
-fn step(run: &[u8], at: usize) {
+// The package or none.
+fn found(run: &[u8], at: usize) {
     match walk::step_at(run, at) {
         PackageRead::Package(p) => {
             package(p);
@@ -30,14 +30,35 @@ fn step(run: &[u8], at: usize) {
             none();
         }
     }
+}
+
+// The package or none, the walk's next place, and the data shown.
+fn step(run: &[u8], at: usize) {
+    found(run, at);
     crate::number(walk::next_at(run, at));
     crate::show(walk::data_at(run, at));
+}
+
+// The same with the length of the data in their place.
+fn long_step(run: &[u8], at: usize) {
+    found(run, at);
+    crate::number(walk::next_at(run, at));
+    let data = walk::data_at(run, at);
+    crate::number(data.len());
+    crate::end();
 }
 
 // A step of M's payload, with this word for the one with the first L.
 fn payload(length: u32, at: usize) {
     let m = crate::changed(28, length);
     step(&m[24..56], at);
+}
+
+// A run of exactly 65,536 bytes, with this word for the one with L, and zero otherwise.
+fn whole_run(length: u32, at: usize) {
+    let mut run = [0u8; 65536];
+    wire::put_word(&mut run, 4, length);
+    long_step(&run, at);
 }
 
 // LARGE comes before the end.
@@ -53,5 +74,12 @@ pub fn walking() {
     payload(0x000D0000, 32);
     // With the first L = 17 the second package would begin at 20. PACKAGE there, and the walk stays.
     payload(0x00110000, 20);
+    // L = 65,535 rounds up to the whole run. Behind it is the end, wherever.
+    whole_run(0xFFFF0000, 0);
+    whole_run(0xFFFF0000, 65536);
+    whole_run(0xFFFF0000, 70000);
+    // With L = 65,524 the second package would begin at 65,524, where 12 bytes are left, and its L is 0.
+    whole_run(0xFFF40000, 0);
+    whole_run(0xFFF40000, 65524);
     large();
 }
