@@ -1,21 +1,28 @@
--- Equal outcomes are equal answers: what a promise allows is one answer.
+-- Equal outcomes are equal answers: what a promise allows is one answer. And an answer's number, place and values are those of the outcome that it is told as.
 use Prim.Native.Nat.{ℕ}
 use mathlib.Core.Path.{_≡_, refl, sym, ap, _∙_}
+use mathlib.Core.List.{List}
 use mathlib.Core.Option.{Option, none, some}
 use native.Mathlib.Omega.{arith}
+use denote.Ref.{RefT, now}
+use Rattle.rules.specs.Outcome.{Outcome, tells}
 use Rattle.rules.specs.Message.{Head}
 use Rattle.rules.specs.Claims.{TellsApart}
 use Rattle.rules.proofs.Outcomes.{good-inj, good≢bad}
 use Rattle.refusal.proofs.Numbers.{refused-injective}
-use Rattle.message.specs.Answers.{headOfHeader, toldHeader, spotOfPackage, toldPackage, spotOfMessage, toldMessage, toldCount, toldCheck}
+use Rattle.message.specs.Answers.{PartOf, headOfHeader, toldHeader, noHead, headerNumbers, spotOfPackage, toldPackage, packageNumbers, spotOfMessage, toldMessage, noMessage, messageNumbers, toldCount, countNumbers, toldCheck, checkNumbers}
 use Rattle.rules.specs.Walk.{PackageSpot}
 use Rattle.rules.specs.Reading.{MessageSpot}
 use Rattle.message.specs.declared.Header.{Header}
 use Rattle.message.specs.declared.Package.{Package}
 use Rattle.message.specs.declared.Message.{Message}
+use Rattle.message.specs.declared.HeaderRead.{HeaderRead}
 use Rattle.message.specs.declared.HeaderRead.the-variants as headerRead
+use Rattle.message.specs.declared.PackageRead.{PackageRead}
 use Rattle.message.specs.declared.PackageRead.the-variants as packageRead
+use Rattle.message.specs.declared.MessageRead.{MessageRead}
 use Rattle.message.specs.declared.MessageRead.the-variants as messageRead
+use Rattle.message.specs.declared.Count.{Count}
 use Rattle.message.specs.declared.Count.the-variants as count
 use Rattle.message.specs.declared.Checked.{Checked}
 use Rattle.message.specs.declared.Checked.the-variants as checked
@@ -100,3 +107,34 @@ same-check (checked.Passed m n) (checked.Passed k l) e =
 same-check (checked.Passed m n) (checked.Refused r) e = absurd (good≢bad (sym e))
 same-check (checked.Refused r) (checked.Passed m n) e = absurd (good≢bad e)
 same-check (checked.Refused r) (checked.Refused q) e = ap checked.Refused (refused-injective r q e)
+
+-- By each promise `told r ≡ o` the answer's number, place and values are those of o, zero on a refusal.
+pub header-numbers : (r : HeaderRead) (o : Outcome (Head × ℕ)) → toldHeader r ≡ o → headerNumbers r ≡ tells (noHead, 0) o
+header-numbers (headerRead.Header h) o e = ap (tells (noHead, 0)) e
+header-numbers (headerRead.Refused r) o e = ap (tells (noHead, 0)) e
+
+pub package-numbers : (r : PackageRead) (o : Outcome (Option PackageSpot)) → toldPackage r ≡ o → packageNumbers r ≡ tells none o
+package-numbers (packageRead.Package k) o e = ap (tells none) e
+package-numbers packageRead.End o e = ap (tells none) e
+package-numbers (packageRead.Refused r) o e = ap (tells none) e
+
+pub message-numbers : (r : MessageRead) (o : Outcome MessageSpot) → toldMessage r ≡ o → messageNumbers r ≡ tells noMessage o
+message-numbers (messageRead.Message m) o e = ap (tells noMessage) e
+message-numbers (messageRead.Refused r) o e = ap (tells noMessage) e
+
+pub check-numbers : (r : Checked) (o : Outcome (ℕ × ℕ)) → toldCheck r ≡ o → checkNumbers r ≡ tells (0, 0) o
+check-numbers (checked.Passed m n) o e = ap (tells (0, 0)) e
+check-numbers (checked.Refused r) o e = ap (tells (0, 0)) e
+
+pub count-numbers : (r : Count) (o : Outcome ℕ) → toldCount r ≡ o → countNumbers r ≡ tells 0 o
+count-numbers (count.Number n) o e = ap (tells 0) e
+count-numbers (count.Refused r) o e = ap (tells 0) e
+
+-- A part of the caller's bytes that is shown: its bytes and its place in memory are settled, and no program can see more.
+pub record SamePart (a b : RefT (List ℕ)) : Type 0 where
+  pub bytes : now a ≡ now b
+  pub block : a .ptr .0 ≡ b .ptr .0
+  pub offset : a .ptr .1 ≡ b .ptr .1
+
+pub same-part : (s : RefT (List ℕ)) (k : ℕ) (l : List ℕ) (a b : RefT (List ℕ)) → now a ≡ l → PartOf s k a → now b ≡ l → PartOf s k b → SamePart a b
+same-part s k l a b e p f q = record { bytes = e ∙ sym f; block = p .block ∙ sym (q .block); offset = p .offset ∙ sym (q .offset) }

@@ -7,14 +7,14 @@ use mathlib.Core.Option.{Option, none, some}
 use lib.Dec.{ltb, eqb}
 use lib.ListN.{length}
 use denote.Ref.{RefT}
-use Rattle.rules.specs.Outcome.{Outcome, good, _>>=_}
+use Rattle.rules.specs.Outcome.{Outcome, good, _>>=_, Told}
 use Rattle.rules.specs.Bytes.{at, half, pad}
 use Rattle.rules.specs.Options.{optionSize, optionFits}
 use Rattle.rules.specs.Packages.{packageFits, cut}
 use Rattle.rules.specs.Message.{Head, head, checksEightToTen, checksOneToTen}
 use Rattle.rules.specs.Reading.{MessageSpot, messageSpot}
 use Rattle.rules.specs.Walk.{PackageSpot}
-use Rattle.refusal.specs.Numbers.{refused}
+use Rattle.refusal.specs.Numbers.{numberOf, refused}
 use Rattle.message.specs.declared.Raw.{Raw}
 use Rattle.message.specs.declared.Header.{Header}
 use Rattle.message.specs.declared.Package.{Package}
@@ -45,7 +45,7 @@ headOf h = record {
   words = h .words;
   kind = h .kind;
   flags = h .flags;
-  id = h .id;
+  id = h .id .0;
   sequence = h .sequence;
   size = h .size;
   seconds = h .seconds;
@@ -56,7 +56,7 @@ abbrev pub headerOf : Raw → ℕ → Header
 headerOf h n = record {
   words = h .words;
   flags = h .flags;
-  id = record { 0 = h .id };
+  id = h .id;
   sequence = h .sequence;
   length = h .size;
   seconds = h .seconds;
@@ -121,6 +121,14 @@ abbrev pub toldHeader : HeaderRead → Outcome (Head × ℕ)
 toldHeader (headerRead.Header h) = good (headOfHeader h, h .run)
 toldHeader (headerRead.Refused r) = refused r
 
+-- the zeros of a header that is refused
+abbrev pub noHead : Head
+noHead = record { version = 0; words = 0; kind = 0; flags = 0; id = 0; sequence = 0; size = 0; seconds = 0; nanos = 0 }
+
+abbrev pub headerNumbers : HeaderRead → Told (Head × ℕ)
+headerNumbers (headerRead.Header h) = record { number = 0; place = 0; values = (headOfHeader h, h .run) }
+headerNumbers (headerRead.Refused r) = record { number = numberOf (r .why); place = r .place; values = (noHead, 0) }
+
 -- r is a part of s, and begins at its element k: it lies in the same memory, k bytes further on
 pub record PartOf (s : RefT (List ℕ)) (k : ℕ) (r : RefT (List ℕ)) : Type 0 where
   pub block : r .ptr .0 ≡ s .ptr .0
@@ -135,6 +143,12 @@ abbrev pub toldPackage : PackageRead → Outcome (Option PackageSpot)
 toldPackage (packageRead.Package k) = good (some (spotOfPackage k))
 toldPackage packageRead.End = good none
 toldPackage (packageRead.Refused r) = refused r
+
+-- at the end as on a refusal there is no package
+abbrev pub packageNumbers : PackageRead → Told (Option PackageSpot)
+packageNumbers (packageRead.Package k) = record { number = 0; place = 0; values = some (spotOfPackage k) }
+packageNumbers packageRead.End = record { number = 0; place = 0; values = none }
+packageNumbers (packageRead.Refused r) = record { number = numberOf (r .why); place = r .place; values = none }
 
 -- ---- a message in a recording
 
@@ -157,8 +171,25 @@ abbrev pub toldMessage : MessageRead → Outcome MessageSpot
 toldMessage (messageRead.Message m) = good (spotOfMessage m)
 toldMessage (messageRead.Refused r) = refused r
 
+abbrev pub noMessage : MessageSpot
+noMessage = record { head = noHead; run = 0; payload = 0; next = 0; packages = 0 }
+
+abbrev pub messageNumbers : MessageRead → Told MessageSpot
+messageNumbers (messageRead.Message m) = record { number = 0; place = 0; values = spotOfMessage m }
+messageNumbers (messageRead.Refused r) = record { number = numberOf (r .why); place = r .place; values = noMessage }
+
 -- ---- a recording
 
 abbrev pub toldCheck : Checked → Outcome (ℕ × ℕ)
 toldCheck (checked.Passed m n) = good (m, n)
 toldCheck (checked.Refused r) = refused r
+
+abbrev pub checkNumbers : Checked → Told (ℕ × ℕ)
+checkNumbers (checked.Passed m n) = record { number = 0; place = 0; values = (m, n) }
+checkNumbers (checked.Refused r) = record { number = numberOf (r .why); place = r .place; values = (0, 0) }
+
+-- ---- a bare run
+
+abbrev pub countNumbers : Count → Told ℕ
+countNumbers (count.Number n) = record { number = 0; place = 0; values = n }
+countNumbers (count.Refused r) = record { number = numberOf (r .why); place = r .place; values = 0 }

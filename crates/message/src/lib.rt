@@ -95,7 +95,7 @@ struct Raw {
     words: u8,
     kind: u8,
     flags: u8,
-    id: u32,
+    id: Mdid,
     sequence: u32,
     size: u32,
     seconds: u32,
@@ -108,7 +108,7 @@ fn raw_of(m: &[u8]) -> Raw
     let first = wire::byte_at(m, 0);
     let second = wire::byte_at(m, 1);
     let flags = wire::byte_at(m, 3);
-    let id = wire::word_at(m, 4);
+    let id = Mdid(wire::word_at(m, 4));
     let sequence = wire::word_at(m, 8);
     let size = wire::word_at(m, 12);
     let seconds = wire::word_at(m, 16);
@@ -281,10 +281,11 @@ fn checks_one_to_seven(m: &[u8], h: Raw, p: usize) -> Count
 fn header_of(h: Raw, run: usize) -> Header
     ensures { λ r. ⌜ r ≡ spec.headerOf h run ⌝ }
 {
+    let id = h.id;
     Header {
         words: h.words,
         flags: h.flags,
-        id: Mdid(h.id),
+        id,
         sequence: h.sequence,
         length: h.size,
         seconds: h.seconds,

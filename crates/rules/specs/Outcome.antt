@@ -1,5 +1,4 @@
--- Document 01, 'Refusal numbers': what a reading comes to. `good` is success, number 0 at place 0, with a value; `bad` is a refusal by its number
--- and its place, with every other number zero and every shown part empty.
+-- Document 01, 'Refusal numbers': what a reading comes to. `good` is success with a value; `bad` is a refusal by its number and its place.
 use Prim.Native.Nat.{ℕ}
 use mathlib.Core.Bool.{Bool, true, false}
 use mathlib.Core.List.{List, _∷_}
@@ -7,6 +6,16 @@ use mathlib.Core.List.{List, _∷_}
 pub data Outcome (A : Type 0) : Type 0 where
   good : A → Outcome A
   bad : ℕ → ℕ → Outcome A
+
+-- What an answer tells: number and place are 0 on success; on a refusal every other number is zero and every shown part empty, which are the `zeros`
+pub record Told (A : Type 0) : Type 0 where
+  pub number : ℕ
+  pub place : ℕ
+  pub values : A
+
+abbrev pub tells : {A : Type 0} → A → Outcome A → Told A
+tells zeros (good a) = record { number = 0; place = 0; values = a }
+tells zeros (bad n p) = record { number = n; place = p; values = zeros }
 
 -- the numbers of the published table
 abbrev pub SHORT : ℕ
