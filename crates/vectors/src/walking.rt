@@ -15,9 +15,9 @@ fn none() {
     crate::four(0, 0, 0, 0);
 }
 
-// The package or none.
-fn found(run: &[u8], at: usize) {
-    match walk::step_at(run, at) {
+// What a step found: the package, or none.
+pub fn found(step: PackageRead) {
+    match step {
         PackageRead::Package(p) => {
             package(p);
         }
@@ -32,16 +32,24 @@ fn found(run: &[u8], at: usize) {
     }
 }
 
-// The package or none, the walk's next place, and the data shown.
+// What a step found, the walk's next place, and the data shown.
+pub fn shown(step: PackageRead, next: usize, bytes: &[u8]) {
+    found(step);
+    crate::number(next);
+    crate::show(bytes);
+}
+
 fn step(run: &[u8], at: usize) {
-    found(run, at);
-    crate::number(walk::next_at(run, at));
-    crate::show(walk::data_at(run, at));
+    shown(
+        walk::step_at(run, at),
+        walk::next_at(run, at),
+        walk::data_at(run, at),
+    );
 }
 
 // The same with the length of the data in their place.
 fn long_step(run: &[u8], at: usize) {
-    found(run, at);
+    found(walk::step_at(run, at));
     crate::number(walk::next_at(run, at));
     let data = walk::data_at(run, at);
     crate::number(data.len());
