@@ -1,0 +1,469 @@
+/* Calls every export of include/hibernaxo.h, with good inputs and with refused ones. Whatever a call is lent has exactly the size that the
+ * header announces and lies against a page that must not be touched, first with its end and then with its beginning; guard bytes fill the
+ * other side, and inputs cannot be written. What comes back is typed from document 01: M, R, P1 to P12 and the table of refusals.
+ *
+ * Prints the name of each export that has given an answer and a refusal, one to a line; tests/exports asks that these are all of the header.
+ * It is C11 and C++17. */
+#ifndef _DEFAULT_SOURCE
+#define _DEFAULT_SOURCE
+#endif
+#include <assert.h>
+#include <signal.h>
+#include <stdio.h>
+#include <stdlib.h>
+#include <string.h>
+#include <sys/mman.h>
+#include <unistd.h>
+
+#include "hibernaxo.h"
+
+#define GUARD 0xA5
+#define UNWRITTEN 0xEE
+#define LARGEST 65536
+
+/* The numbers of document 01. */
+static const char M[] = "10000080 00000007 00000005 00000038 00000064 00000000"
+                        "00000001 000D0000 00000000 AA112233 00000002 00105500 0000000A DEADBEEF";
+static const char PACKAGES[] = "00000001 000D0000 00000000 AA112233 00000002 00105500 0000000A DEADBEEF";
+static const char CLEAN[] = "10000080 00000007 00000005 00000038 00000064 00000000"
+                            "00000001 000D0000 00000000 AA000000 00000002 00100000 0000000A DEADBEEF";
+static const char R[] = "00000007 00000007 00000001 00000001 00000064 00000000 00000194 00000000";
+static const char P10[] = "100000C0 00000007 00000000 00000028 00000064 00000000 00000001 000D0000 00000000 AA000000";
+static const char MARKER[] = "0347 76C7 2728 95B0";
+
+/* ---- Memory that is lent */
+
+/* Which end of it lies against a page that must not be touched. */
+static enum { AT_ITS_END, AT_ITS_BEGINNING } forbidden;
+
+struct lent {
+    uint8_t *bytes;
+    size_t length;
+    uint8_t *room; /* the pages that it lies in, between two that must not be touched */
+    size_t room_length;
+};
+
+static struct lent lents[64];
+static size_t lent_count;
+
+/* The call that is under way, and what it answered. */
+static const char *called = "none";
+static uint32_t number;
+static struct lent stored;
+
+static void fail(int line, const char *what)
+{
+    fflush(stdout);
+    fprintf(stderr, "tests/exports.c:%d: %s: %s\n", line, called, what);
+    exit(1);
+}
+
+static void touched(int signal_number)
+{
+    static const char behind[] = ": memory was touched beside what was lent, or an input was written\n";
+    (void)signal_number;
+    if (write(2, "tests/exports.c: ", 17) < 0 || write(2, called, strlen(called)) < 0 || write(2, behind, sizeof behind - 1) < 0)
+        _exit(2);
+    _exit(1);
+}
+
+static struct lent lend(size_t length, int fill)
+{
+    size_t page = (size_t)sysconf(_SC_PAGESIZE);
+    struct lent memory;
+    uint8_t *whole;
+    memory.length = length;
+    memory.room_length = (length / page + 1) * page;
+    whole = (uint8_t *)mmap(NULL, memory.room_length + 2 * page, PROT_NONE, MAP_PRIVATE | MAP_ANONYMOUS, -1, 0);
+    memory.room = whole + page;
+    if (whole == MAP_FAILED || mprotect(memory.room, memory.room_length, PROT_READ | PROT_WRITE) != 0)
+        fail(__LINE__, "no memory");
+    memory.bytes = forbidden == AT_ITS_END ? memory.room + memory.room_length - length : memory.room;
+    memset(memory.room, GUARD, memory.room_length);
+    memset(memory.bytes, fill, length);
+    if (lent_count == sizeof lents / sizeof *lents)
+        fail(__LINE__, "too many parts in one group of calls");
+    lents[lent_count++] = memory;
+    return memory;
+}
+
+/* The same memory, which can no longer be written. */
+static struct lent shut(struct lent memory)
+{
+    if (mprotect(memory.room, memory.room_length, PROT_READ) != 0)
+        fail(__LINE__, "no memory");
+    return memory;
+}
+
+static void give_back(void)
+{
+    size_t page = (size_t)sysconf(_SC_PAGESIZE);
+    while (lent_count > 0) {
+        lent_count--;
+        munmap(lents[lent_count].room - page, lents[lent_count].room_length + 2 * page);
+    }
+}
+
+/* How many bytes a text in hexadecimal stands for; they are put to `to`, unless it is null. */
+static size_t from_hex(const char *text, uint8_t *to)
+{
+    size_t digits = 0;
+    for (; *text != 0; text++) {
+        if (*text != ' ') {
+            unsigned digit = *text <= '9' ? (unsigned)(*text - '0') : (unsigned)(*text - 'A' + 10);
+            if (to != NULL)
+                to[digits / 2] = (uint8_t)(digits % 2 == 0 ? digit << 4 : (unsigned)to[digits / 2] | digit);
+            digits++;
+        }
+    }
+    return digits / 2;
+}
+
+/* Bytes that may be written. */
+static struct lent bytes_of(const char *text)
+{
+    struct lent memory = lend(from_hex(text, NULL), 0);
+    from_hex(text, memory.bytes);
+    return memory;
+}
+
+/* An input: these bytes, or so many zeros. */
+static struct lent input(const char *text) { return shut(bytes_of(text)); }
+static struct lent zeros(size_t length) { return shut(lend(length, 0)); }
+
+/* M with other bytes from an index on. */
+static struct lent m_with(size_t at, const char *text)
+{
+    struct lent memory = bytes_of(M);
+    from_hex(text, memory.bytes + at);
+    return shut(memory);
+}
+
+/* A buffer for an output. */
+static struct lent buffer(size_t length) { return lend(length, UNWRITTEN); }
+
+/* An array for so many values, which the next call stores. */
+static uint64_t *values(size_t count)
+{
+    stored = lend(8 * count, UNWRITTEN);
+    return (uint64_t *)(void *)stored.bytes;
+}
+
+/* ---- What comes back */
+
+struct tally {
+    const char *name;
+    int good, refused;
+};
+
+static struct tally tallies[256];
+
+static void count_answer(void)
+{
+    struct tally *tally = tallies;
+    while (tally->name != NULL && strcmp(tally->name, called) != 0)
+        tally++;
+    tally->name = called;
+    tally->good += number == HIBERNAXO_OK;
+    tally->refused += number != HIBERNAXO_OK;
+}
+
+static void guards_stand(int line)
+{
+    for (size_t k = 0; k < lent_count; k++)
+        for (size_t i = 0; i < lents[k].room_length; i++) {
+            const uint8_t *place = lents[k].room + i;
+            if ((place < lents[k].bytes || place >= lents[k].bytes + lents[k].length) && *place != GUARD)
+                fail(line, "a byte beside what was lent was written");
+        }
+}
+
+/* The number and the values of the last call: those wanted, and zeros behind them. */
+static void expect(int line, uint32_t wanted_number, const uint64_t *wanted, size_t count)
+{
+    char what[200];
+    const uint64_t *got = (const uint64_t *)(const void *)stored.bytes;
+    guards_stand(line);
+    if (number != wanted_number) {
+        snprintf(what, sizeof what, "number %u, wanted %u", (unsigned)number, (unsigned)wanted_number);
+        fail(line, what);
+    }
+    if (count > stored.length / 8)
+        fail(line, "more values are wanted than the header announces");
+    for (size_t k = 0; k < stored.length / 8; k++) {
+        uint64_t want = k < count ? wanted[k] : 0;
+        if (got[k] != want) {
+            snprintf(what, sizeof what, "value %u is %llu, wanted %llu", (unsigned)k, (unsigned long long)got[k], (unsigned long long)want);
+            fail(line, what);
+        }
+    }
+    count_answer();
+}
+
+/* A buffer has these bytes from an index on. */
+static void holds(int line, struct lent out, size_t at, const char *text)
+{
+    uint8_t wanted[256];
+    size_t length = from_hex(text, NULL);
+    from_hex(text, wanted);
+    if (at + length > out.length || memcmp(out.bytes + at, wanted, length) != 0)
+        fail(line, "other bytes are written");
+}
+
+/* From an index on it is as it was lent. */
+static void unwritten(int line, struct lent out, size_t from)
+{
+    for (size_t k = from; k < out.length; k++)
+        if (out.bytes[k] != UNWRITTEN)
+            fail(line, "a byte of the buffer changed that had to stay");
+}
+
+#define CALL(name, ...) (called = #name, number = name(__VA_ARGS__))
+#define EXPECT(number, ...)                                                        \
+    do {                                                                           \
+        static const uint64_t wanted[] = {__VA_ARGS__};                            \
+        expect(__LINE__, number, wanted, sizeof wanted / sizeof *wanted);          \
+    } while (0)
+/* The buffer begins with these bytes, and those behind them stay. */
+#define WRITTEN(out, text) (holds(__LINE__, out, 0, text), unwritten(__LINE__, out, from_hex(text, NULL)))
+#define KEPT(out) unwritten(__LINE__, out, 0)
+#define HOLDS(out, at, text) holds(__LINE__, out, at, text)
+
+/* ---- The calls, export by export */
+
+static void headers(void)
+{
+    struct lent s = input(M);
+    CALL(hibernaxo_header, s.bytes, s.length, values(HIBERNAXO_HEADER_VALUES));
+    EXPECT(HIBERNAXO_OK, 0, 0, 0x80, 7, 5, 56, 100, 0, 24, 0);
+    /* P7: option bytes, and the same with a bad one */
+    s = input("12000080 00000007 00000005 00000020 00000064 00000000 87060000 000100FF");
+    CALL(hibernaxo_header, s.bytes, s.length, values(HIBERNAXO_HEADER_VALUES));
+    EXPECT(HIBERNAXO_OK, 0, 2, 0x80, 7, 5, 32, 100, 0, 24, 6);
+    s = input("12000080 00000007 00000005 00000020 00000064 00000000 87050000 000100FF");
+    CALL(hibernaxo_header, s.bytes, s.length, values(HIBERNAXO_HEADER_VALUES));
+    EXPECT(HIBERNAXO_OPTION, 24);
+    s = m_with(0, "20"); /* P3 */
+    CALL(hibernaxo_header, s.bytes, s.length, values(HIBERNAXO_HEADER_VALUES));
+    EXPECT(HIBERNAXO_VERSION, 0);
+    s = zeros(0);
+    CALL(hibernaxo_header, s.bytes, s.length, values(HIBERNAXO_HEADER_VALUES));
+    EXPECT(HIBERNAXO_SHORT, 0);
+    s = zeros(LARGEST + 1);
+    CALL(hibernaxo_header, s.bytes, s.length, values(HIBERNAXO_HEADER_VALUES));
+    EXPECT(HIBERNAXO_LARGE, LARGEST);
+}
+
+static void packages(void)
+{
+    struct lent run = input(PACKAGES);
+    CALL(hibernaxo_package, run.bytes, run.length, 0, values(HIBERNAXO_PACKAGE_VALUES));
+    EXPECT(HIBERNAXO_OK, 0, 1, 1, 13, 0, 0, 12, 1, 16);
+    CALL(hibernaxo_package, run.bytes, run.length, 16, values(HIBERNAXO_PACKAGE_VALUES));
+    EXPECT(HIBERNAXO_OK, 0, 1, 2, 16, 0, 10, 28, 4, 32);
+    CALL(hibernaxo_package, run.bytes, run.length, 32, values(HIBERNAXO_PACKAGE_VALUES));
+    EXPECT(HIBERNAXO_OK, 0, 0, 0, 0, 0, 0, 0, 0, 32);
+    CALL(hibernaxo_package, run.bytes, run.length, SIZE_MAX, values(HIBERNAXO_PACKAGE_VALUES));
+    EXPECT(HIBERNAXO_OK, 0, 0, 0, 0, 0, 0, 0, 0, SIZE_MAX);
+    CALL(hibernaxo_package, run.bytes, run.length, 4, values(HIBERNAXO_PACKAGE_VALUES));
+    EXPECT(HIBERNAXO_PACKAGE, 4, 0, 0, 0, 0, 0, 0, 0, 4);
+    run = zeros(0);
+    CALL(hibernaxo_package, run.bytes, run.length, 0, values(HIBERNAXO_PACKAGE_VALUES));
+    EXPECT(HIBERNAXO_OK, 0, 0, 0, 0, 0, 0, 0, 0, 0);
+    run = zeros(LARGEST + 1);
+    CALL(hibernaxo_package, run.bytes, run.length, 3, values(HIBERNAXO_PACKAGE_VALUES));
+    EXPECT(HIBERNAXO_LARGE, LARGEST, 0, 0, 0, 0, 0, 0, 0, 3);
+}
+
+static void checks(void)
+{
+    struct lent s = input(M);
+    CALL(hibernaxo_check, s.bytes, s.length, values(HIBERNAXO_CHECK_VALUES));
+    EXPECT(HIBERNAXO_OK, 0, 1, 2);
+    s = zeros(0);
+    CALL(hibernaxo_check, s.bytes, s.length, values(HIBERNAXO_CHECK_VALUES));
+    EXPECT(HIBERNAXO_OK, 0, 0, 0);
+    s = zeros(23); /* P2 */
+    CALL(hibernaxo_check, s.bytes, s.length, values(HIBERNAXO_CHECK_VALUES));
+    EXPECT(HIBERNAXO_SHORT, 0);
+    s = m_with(1, "01");
+    CALL(hibernaxo_check, s.bytes, s.length, values(HIBERNAXO_CHECK_VALUES));
+    EXPECT(HIBERNAXO_TYPE, 0);
+    s = input("11000080 00000007 00000005 00000018 00000064 00000000"); /* P4 */
+    CALL(hibernaxo_check, s.bytes, s.length, values(HIBERNAXO_CHECK_VALUES));
+    EXPECT(HIBERNAXO_LENGTH, 0);
+    s = m_with(2, "0090");
+    CALL(hibernaxo_check, s.bytes, s.length, values(HIBERNAXO_CHECK_VALUES));
+    EXPECT(HIBERNAXO_FRAGMENT, 0);
+    s = m_with(2, "0000");
+    CALL(hibernaxo_check, s.bytes, s.length, values(HIBERNAXO_CHECK_VALUES));
+    EXPECT(HIBERNAXO_STANDARD, 0);
+    s = m_with(12, "0000003C"); /* P5 */
+    CALL(hibernaxo_check, s.bytes, s.length, values(HIBERNAXO_CHECK_VALUES));
+    EXPECT(HIBERNAXO_CUT, 0);
+    s = m_with(28, "0011"); /* P8 with L = 17 */
+    CALL(hibernaxo_check, s.bytes, s.length, values(HIBERNAXO_CHECK_VALUES));
+    EXPECT(HIBERNAXO_PACKAGE, 44);
+}
+
+static void writing(void)
+{
+    struct lent none = zeros(0), options = input("87060000 0001"), run = input(PACKAGES), bad = m_with(28, "000B"), long_run = zeros(61);
+    struct lent out = buffer(72);
+    CALL(hibernaxo_write, 0x4F, 0x01020304, 0x05060708, 0x090A0B0C, 0x0D0E0F10, options.bytes, options.length, run.bytes, run.length,
+         out.bytes, out.length, values(HIBERNAXO_WRITE_VALUES));
+    EXPECT(HIBERNAXO_OK, 0, 64);
+    WRITTEN(out, "120000CF 01020304 05060708 00000040 090A0B0C 0D0E0F10 87060000 00010000"
+                 "00000001 000D0000 00000000 AA000000 00000002 00100000 0000000A DEADBEEF");
+    out = buffer(24);
+    CALL(hibernaxo_write, 0, 7, 5, 100, 0, none.bytes, none.length, none.bytes, none.length, out.bytes, out.length, values(HIBERNAXO_WRITE_VALUES));
+    EXPECT(HIBERNAXO_OK, 0, 24);
+    WRITTEN(out, "10000000 00000007 00000005 00000018 00000064 00000000");
+    out = buffer(63);
+    CALL(hibernaxo_write, 0, 7, 5, 100, 0, options.bytes, options.length, run.bytes, run.length, out.bytes, out.length, values(HIBERNAXO_WRITE_VALUES));
+    EXPECT(HIBERNAXO_ROOM, 64);
+    KEPT(out);
+    out = buffer(0);
+    CALL(hibernaxo_write, 0, 7, 5, 100, 0, none.bytes, none.length, run.bytes, run.length, out.bytes, out.length, values(HIBERNAXO_WRITE_VALUES));
+    EXPECT(HIBERNAXO_ROOM, 56);
+    out = buffer(128);
+    CALL(hibernaxo_write, 0, 7, 5, 100, 1000000000, none.bytes, none.length, run.bytes, run.length, out.bytes, out.length, values(HIBERNAXO_WRITE_VALUES));
+    EXPECT(HIBERNAXO_TIME, 0);
+    CALL(hibernaxo_write, 0, 7, 5, 100, 0, long_run.bytes, long_run.length, run.bytes, run.length, out.bytes, out.length, values(HIBERNAXO_WRITE_VALUES));
+    EXPECT(HIBERNAXO_OPTION, 60);
+    CALL(hibernaxo_write, 0, 7, 5, 100, 0, none.bytes, none.length, bad.bytes + 24, bad.length - 24, out.bytes, out.length, values(HIBERNAXO_WRITE_VALUES));
+    EXPECT(HIBERNAXO_PACKAGE, 0);
+    KEPT(out);
+}
+
+static void cleaning(void)
+{
+    struct lent s = input(M), out = buffer(60);
+    CALL(hibernaxo_clean, s.bytes, s.length, out.bytes, out.length, values(HIBERNAXO_CLEAN_VALUES));
+    EXPECT(HIBERNAXO_OK, 0, 56);
+    WRITTEN(out, CLEAN);
+    out = buffer(55);
+    CALL(hibernaxo_clean, s.bytes, s.length, out.bytes, out.length, values(HIBERNAXO_CLEAN_VALUES));
+    EXPECT(HIBERNAXO_ROOM, 56);
+    KEPT(out);
+    out = buffer(0);
+    CALL(hibernaxo_clean, s.bytes, s.length, out.bytes, out.length, values(HIBERNAXO_CLEAN_VALUES));
+    EXPECT(HIBERNAXO_ROOM, 56);
+    s = m_with(20, "3B9ACA00"); /* P6 */
+    out = buffer(56);
+    CALL(hibernaxo_clean, s.bytes, s.length, out.bytes, out.length, values(HIBERNAXO_CLEAN_VALUES));
+    EXPECT(HIBERNAXO_TIME, 0);
+    KEPT(out);
+}
+
+static_assert(2 + HIBERNAXO_ROWS * HIBERNAXO_ROW_VALUES == HIBERNAXO_SHEET_VALUES, "place, number of rows, and the rows");
+
+static void sheets(void)
+{
+    uint64_t wanted[HIBERNAXO_SHEET_VALUES] = {0, HIBERNAXO_ROWS};
+    static const uint64_t row[HIBERNAXO_ROW_VALUES] = {7, 7, 1, 1, 100, 0, 101, 0};
+    struct lent sheet = input(R); /* P9 */
+    CALL(hibernaxo_sheet, sheet.bytes, sheet.length, values(HIBERNAXO_SHEET_VALUES));
+    EXPECT(HIBERNAXO_OK, 0, 1, 7, 7, 1, 1, 100, 0, 101, 0);
+    /* as many rows as a sheet may have, each R */
+    sheet = lend(32 * HIBERNAXO_ROWS, 0);
+    for (size_t k = 0; k < HIBERNAXO_ROWS; k++) {
+        from_hex(R, sheet.bytes + 32 * k);
+        memcpy(wanted + 2 + HIBERNAXO_ROW_VALUES * k, row, sizeof row);
+    }
+    shut(sheet);
+    CALL(hibernaxo_sheet, sheet.bytes, sheet.length, values(HIBERNAXO_SHEET_VALUES));
+    expect(__LINE__, HIBERNAXO_OK, wanted, HIBERNAXO_SHEET_VALUES);
+    sheet = zeros(0);
+    CALL(hibernaxo_sheet, sheet.bytes, sheet.length, values(HIBERNAXO_SHEET_VALUES));
+    EXPECT(HIBERNAXO_OK, 0, 0);
+    sheet = zeros(31);
+    CALL(hibernaxo_sheet, sheet.bytes, sheet.length, values(HIBERNAXO_SHEET_VALUES));
+    EXPECT(HIBERNAXO_ROW, 31);
+    /* a second row from message id 8 to 7 */
+    sheet = input("00000007 00000007 00000001 00000001 00000064 00000000 00000194 00000000"
+                  "00000008 00000007 00000001 00000001 00000064 00000000 00000194 00000000");
+    CALL(hibernaxo_sheet, sheet.bytes, sheet.length, values(HIBERNAXO_SHEET_VALUES));
+    EXPECT(HIBERNAXO_ROW, 32);
+}
+
+static void copies(void)
+{
+    struct lent s = input(M), none = zeros(0), sheet = input(R), out = buffer(48);
+    CALL(hibernaxo_copy, s.bytes, s.length, sheet.bytes, sheet.length, out.bytes, out.length, values(HIBERNAXO_COPY_VALUES));
+    EXPECT(HIBERNAXO_OK, 0, 40, 1, 1);
+    WRITTEN(out, P10);
+    out = buffer(39);
+    CALL(hibernaxo_copy, s.bytes, s.length, sheet.bytes, sheet.length, out.bytes, out.length, values(HIBERNAXO_COPY_VALUES));
+    EXPECT(HIBERNAXO_ROOM, 40);
+    KEPT(out);
+    out = buffer(0);
+    CALL(hibernaxo_copy, s.bytes, s.length, sheet.bytes, sheet.length, out.bytes, out.length, values(HIBERNAXO_COPY_VALUES));
+    EXPECT(HIBERNAXO_ROOM, 40);
+    out = buffer(56);
+    CALL(hibernaxo_copy, none.bytes, none.length, sheet.bytes, sheet.length, out.bytes, out.length, values(HIBERNAXO_COPY_VALUES)); /* P1 */
+    EXPECT(HIBERNAXO_OK, 0, 0, 0, 0);
+    CALL(hibernaxo_copy, s.bytes, s.length, none.bytes, none.length, out.bytes, out.length, values(HIBERNAXO_COPY_VALUES));
+    EXPECT(HIBERNAXO_OK, 0, 0, 0, 0);
+    CALL(hibernaxo_copy, s.bytes, s.length, s.bytes, s.length, out.bytes, out.length, values(HIBERNAXO_COPY_VALUES));
+    EXPECT(HIBERNAXO_ROW, 56);
+    KEPT(out);
+}
+
+static void randomizing(void)
+{
+    struct lent buf = lend(769, 0); /* P12, by the bytes of zeros that were randomized */
+    CALL(hibernaxo_randomize, buf.bytes, buf.length, values(HIBERNAXO_RANDOMIZE_VALUES));
+    EXPECT(HIBERNAXO_OK, 0);
+    HOLDS(buf, 0, "FF480EC09A");
+    HOLDS(buf, 255, "FF");
+    HOLDS(buf, 768, "C0");
+    buf = lend(0, 0);
+    CALL(hibernaxo_randomize, buf.bytes, buf.length, values(HIBERNAXO_RANDOMIZE_VALUES));
+    EXPECT(HIBERNAXO_OK, 0);
+    buf = buffer(LARGEST + 1);
+    CALL(hibernaxo_randomize, buf.bytes, buf.length, values(HIBERNAXO_RANDOMIZE_VALUES));
+    EXPECT(HIBERNAXO_LARGE, LARGEST);
+    KEPT(buf);
+}
+
+static void bursts(void)
+{
+    struct lent buf = lend(8 + 2 * 768, 0);
+    from_hex(MARKER, buf.bytes);
+    CALL(hibernaxo_open_burst, buf.bytes, buf.length, values(HIBERNAXO_OPEN_BURST_VALUES));
+    EXPECT(HIBERNAXO_OK, 0, 2);
+    HOLDS(buf, 0, "0347 76C7 2728 95B0 FF480EC09A");
+    HOLDS(buf, 8 + 768, "C0");
+    buf = bytes_of(MARKER);
+    CALL(hibernaxo_open_burst, buf.bytes, buf.length, values(HIBERNAXO_OPEN_BURST_VALUES));
+    EXPECT(HIBERNAXO_BLOCKS, 8);
+    HOLDS(buf, 0, MARKER);
+    buf = buffer(7);
+    CALL(hibernaxo_open_burst, buf.bytes, buf.length, values(HIBERNAXO_OPEN_BURST_VALUES));
+    EXPECT(HIBERNAXO_MARKER, 0);
+    KEPT(buf);
+    buf = buffer(LARGEST + 1);
+    CALL(hibernaxo_open_burst, buf.bytes, buf.length, values(HIBERNAXO_OPEN_BURST_VALUES));
+    EXPECT(HIBERNAXO_LARGE, LARGEST);
+    KEPT(buf);
+}
+
+int main(void)
+{
+    static void (*const groups[])(void) = {headers, packages, checks, writing, cleaning, sheets, copies, randomizing, bursts};
+    signal(SIGSEGV, touched);
+    signal(SIGBUS, touched);
+    for (size_t k = 0; k < sizeof groups / sizeof *groups; k++) {
+        forbidden = AT_ITS_END;
+        groups[k]();
+        give_back();
+        forbidden = AT_ITS_BEGINNING;
+        groups[k]();
+        give_back();
+    }
+    for (const struct tally *tally = tallies; tally->name != NULL; tally++)
+        if (tally->good > 0 && tally->refused > 0)
+            puts(tally->name);
+    return 0;
+}
