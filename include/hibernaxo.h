@@ -5,9 +5,10 @@
  * On a refusal every other value is 0, and no byte of a lent buffer changes; only a walk's place comes back as it was
  * handed in.
  *
- * A slice is a pointer and a length in bytes. Pointers are never null, even where the length is 0. A buffer that is
- * written, values included, overlaps nothing else that the same call is handed. The functions keep no state and no
- * pointer, and may run on several threads at a time.
+ * A slice is a pointer and a length in bytes. Pointers are never null, even where the length is 0: any other address
+ * does there. A buffer that is written, values included, overlaps nothing else that the same call is handed. An output
+ * buffer of length 0 asks how many bytes are needed, by HIBERNAXO_ROOM. The functions keep no state and no pointer, and
+ * may run on several threads at a time.
  */
 #ifndef HIBERNAXO_H
 #define HIBERNAXO_H
