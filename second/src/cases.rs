@@ -6,9 +6,10 @@ use crate::dice::Dice;
 use crate::drafts::{bad_draft, good_draft, OwnDraft};
 use crate::generate::*;
 use crate::judge::Judge;
+use crate::lent::room_for;
 use crate::orders::{bad_sheet, everything, pack_sheet, rows, targets, Target};
 use crate::refusal::{MOST_BYTES, ROOM};
-use crate::{copy, demand, parse, render, round_trips, side_by_side};
+use crate::{copy, demand, render, round_trips, side_by_side};
 
 type Case = fn(&mut Judge, &mut Dice);
 
@@ -39,21 +40,6 @@ pub fn run(judge: &mut Judge, seed: u64, case: u64) {
             return kind(judge, &mut dice);
         }
         slot -= share;
-    }
-}
-
-/// The length of a buffer for an output of so many bytes: just enough, one
-/// byte less, none, or more.
-pub fn room_for(dice: &mut Dice, needed: usize) -> usize {
-    match dice.below(10) {
-        0..=2 => needed,
-        3 | 4 => needed.saturating_sub(1),
-        5 => 0,
-        6 => needed + 1,
-        7 => needed + dice.below(200),
-        8 => dice.below(needed + 1),
-        _ if dice.chance(1, 20) => MOST_BYTES + dice.within(1, 5_000),
-        _ => needed + dice.below(8),
     }
 }
 
@@ -280,9 +266,4 @@ fn open_burst_case(judge: &mut Judge, dice: &mut Dice) {
         _ => {}
     }
     side_by_side::open_burst(judge, dice, &burst);
-}
-
-/// Does a recording pass every check?
-pub fn passes(recording: &[u8]) -> bool {
-    parse::check(recording).is_ok()
 }

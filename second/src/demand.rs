@@ -1,13 +1,13 @@
 //! Demand 3, asked of the copy directly: recordings that differ only in what
 //! is withheld have one copy, and a changed released byte changes the copy.
 
-use crate::cases::{passes, room_for};
 use crate::copy::released_list;
 use crate::dice::Dice;
 use crate::generate::*;
 use crate::judge::{dump, Judge};
+use crate::lent::room_for;
 use crate::orders::{pack_sheet, row_around, rows, targets};
-use crate::parse::{package_time, read_recording};
+use crate::parse::{check, package_time, read_recording};
 use crate::sheet::{granted, Row};
 use crate::side_by_side;
 
@@ -244,6 +244,11 @@ fn change_everything(dice: &mut Dice, scene: &Scene) -> Vec<DirtyMessage> {
         changed.messages = change(dice, &changed);
     }
     changed.messages
+}
+
+/// Does a recording pass every check?
+fn passes(recording: &[u8]) -> bool {
+    check(recording).is_ok()
 }
 
 /// Are the released lists of two recordings that pass equal under these rows?

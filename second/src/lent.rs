@@ -4,6 +4,7 @@
 //! the answer. A twin keeps the bytes as they should be afterwards.
 
 use crate::dice::Dice;
+use crate::refusal::MOST_BYTES;
 use std::ops::Range;
 
 #[derive(Clone, Debug)]
@@ -56,5 +57,20 @@ impl Lent {
         }
         let at = (0..self.bytes.len()).find(|&at| self.bytes[at] != self.twin[at])?;
         Some((at as isize - self.part.start as isize, self.twin[at], self.bytes[at]))
+    }
+}
+
+/// The length of a buffer for an output of so many bytes: just enough, one
+/// byte less, none, or more.
+pub fn room_for(dice: &mut Dice, needed: usize) -> usize {
+    match dice.below(10) {
+        0..=2 => needed,
+        3 | 4 => needed.saturating_sub(1),
+        5 => 0,
+        6 => needed + 1,
+        7 => needed + dice.below(200),
+        8 => dice.below(needed + 1),
+        _ if dice.chance(1, 20) => MOST_BYTES + dice.within(1, 5_000),
+        _ => needed + dice.below(8),
     }
 }
