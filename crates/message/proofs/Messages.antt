@@ -9,12 +9,12 @@ use borrow.Author.Tests.{lt-ltb, le-ltb, ltb-true, ltb-false}
 use lib.Dec.{ltb}
 use lib.ListN.{length, take, drop, length-drop, length-append, length-map}
 use lib.Seq.{drop-cons, length-take-le}
-use Rattle.rules.specs.Outcome.{Outcome, good, bad, _>>=_, SHORT, LARGE, FRAGMENT, STANDARD}
+use Rattle.rules.specs.Outcome.{Outcome, good, bad, _>>_, _>>=_, SHORT, LARGE, FRAGMENT, STANDARD}
 use Rattle.rules.specs.Bytes.{at, part, oneIfAny}
 use Rattle.rules.specs.Packages.{Fills, none, more, cut, packageOf}
-use Rattle.rules.specs.Message.{Head, head, payloadStart, checksOneToSix, optionRunLength, checksEightToTen, checksOneToTen, Message, recordOf, message, recording}
+use Rattle.rules.specs.Message.{Head, head, payloadStart, payload, checksOneToSix, optionRunLength, checksEightAndNine, checksOneToNine, checksOneToTen, Message, recordOf, message, recording}
 use Rattle.rules.specs.Reading.{packagesOf, checkedRecording}
-use Rattle.rules.proofs.Outcomes.{pass, halt, step, stop, stepped, stop-before, good-inj, good≢bad, refused-step}
+use Rattle.rules.proofs.Outcomes.{pass, halt, pass-last, halt-last, after, step, stop, stepped, stop-before, good-inj, good≢bad, refused-step}
 use Rattle.rules.proofs.Passed.{passes}
 use Rattle.rules.proofs.Loops.{rest, Doing, doing-start, doing-next, doing-end, doing-bad}
 use Rattle.rules.proofs.Cut as Cut
@@ -48,35 +48,36 @@ uncut p s e = ⊎-elim (λ z. z) (λ z. absurd (good≢bad (sym (z .2)))) (refus
 
 module _ (p : ℕ) (s : List ℕ) (h : Head) (n : ℕ) where
   pub fragment : (h .flags / 16 % 4 ≡ 0 → ⊥) → bad FRAGMENT p ≡ spotBehindRun p s h n
-  unfolding spotBehindRun checksEightToTen
-  fragment a = sym (stop _ _ (halt _ _ _ _ (isnt (h .flags / 16 % 4) 0 a)))
+  unfolding spotBehindRun checksEightAndNine
+  fragment a = sym (stop-before _ _ (halt _ _ _ _ (isnt (h .flags / 16 % 4) 0 a)))
 
   module _ (a : h .flags / 16 % 4 ≡ 0) (o : Opened s h p) (f z : ℕ) (ef : f ≡ 24 + 4 * h .words) (ez : z ≡ h .size) (b : ℕ) (eb : b ≡ oneIfBytes f z) where
     some-payload : oneIfAny (part (payloadStart h) (h .size) s) ≡ b
     some-payload = any-part s (payloadStart h) (h .size) (o .most) ∙ rw (← ef, ← ez) (sym eb)
 
     pub standard : (h .flags / 128 % 2 ≡ b → ⊥) → bad STANDARD p ≡ spotBehindRun p s h n
-    unfolding spotBehindRun checksEightToTen
+    unfolding spotBehindRun checksEightAndNine
     standard c =
         let q : oneIfAny (part (payloadStart h) (h .size) s) ≡ b = some-payload in
-        sym (stop _ _ (pass _ _ _ _ (is (h .flags / 16 % 4) 0 a) (halt _ _ _ _ (isnt (h .flags / 128 % 2) (oneIfAny (part (payloadStart h) (h .size) s)) (λ w. c (w ∙ q))))))
+        sym (stop-before _ _ (pass _ _ _ _ (is (h .flags / 16 % 4) 0 a) (halt-last _ _ _ (isnt (h .flags / 128 % 2) (oneIfAny (part (payloadStart h) (h .size) s)) (λ w. c (w ∙ q))))))
 
     module _ (c : h .flags / 128 % 2 ≡ b) where
-      fits : h .flags / 128 % 2 ≡ oneIfAny (part (payloadStart h) (h .size) s)
-      fits = c ∙ sym some-payload
+      fits : checksEightAndNine p s h ≡ good tt
+      unfolding checksEightAndNine
+      fits = pass _ _ _ _ (is (h .flags / 16 % 4) 0 a) (pass-last _ _ _ (is (h .flags / 128 % 2) (oneIfAny (part (payloadStart h) (h .size) s)) (c ∙ sym some-payload)))
 
       pub no-cut : {m q : ℕ} → bad m q ≡ cutCount (p + f) (take (z - f) (drop f s)) → bad m q ≡ spotBehindRun p s h n
-      unfolding spotBehindRun checksEightToTen cutCount
+      unfolding spotBehindRun cutCount
       no-cut {m} {q} e =
           let g : cutCount (p + payloadStart h) (part (payloadStart h) (h .size) s) ≡ bad m q = sym (rw (ef, ez) at e) in
-          sym (stop _ _ (pass _ _ _ _ (is (h .flags / 16 % 4) 0 a) (pass _ _ _ _ (is (h .flags / 128 % 2) (oneIfAny (part (payloadStart h) (h .size) s)) fits) (uncut (p + payloadStart h) (part (payloadStart h) (h .size) s) g))))
+          sym (after _ _ fits (stop _ _ (uncut (p + payloadStart h) (part (payloadStart h) (h .size) s) g)))
 
       pub whole : (k : ℕ) → good k ≡ cutCount (p + f) (take (z - f) (drop f s)) → good (record { head = h; run = n; payload = p + f; next = p + z; packages = k }) ≡ spotBehindRun p s h n
-      unfolding spotBehindRun checksEightToTen cutCount messageSpot
+      unfolding spotBehindRun cutCount messageSpot
       whole k e =
           let (cs, g, d) = stepped _ _ (sym (rw (ef, ez) at e)) in
           let w : length cs ≡ k = good-inj d in
-          sym (step _ _ (pass _ _ _ _ (is (h .flags / 16 % 4) 0 a) (pass _ _ _ _ (is (h .flags / 128 % 2) (oneIfAny (part (payloadStart h) (h .size) s)) fits) g)) (rw (w, ef, ez)))
+          sym (after _ _ fits (step _ _ g (rw (w, ef, ez))))
 
 -- the header as it is told
 pub told : (h : Raw) (n : ℕ) (r : Header) (x y k : ℕ) {o : Outcome MessageSpot} → h .version ≡ 1 → h .kind ≡ 0 → r ≡ headerOf h n
@@ -85,22 +86,26 @@ pub told : (h : Raw) (n : ℕ) (r : Header) (x y k : ℕ) {o : Outcome MessageSp
 told h n r x y k v w er g = rw er (rw (v, w) at g)
 
 -- ---- checks 1 to 10
-regroup : (o : Outcome (List (List ℕ))) (n : ℕ) (f : ℕ × List (List ℕ) → MessageSpot)
-    → ((o >>= λ (cs : List (List ℕ)). good (n, cs)) >>= λ (r : ℕ × List (List ℕ)). good (f r)) ≡ (o >>= λ (cs : List (List ℕ)). good (f (n, cs)))
-unfolding _>>=_
-regroup (good cs) n f = refl
-regroup (bad x y) n f = refl
+regroup : (c : Outcome (Unit {0})) (o : Outcome (List (List ℕ))) (n : ℕ) (f : ℕ × List (List ℕ) → MessageSpot)
+    → (((c >> good n) >>= λ (m : ℕ). o >>= λ (cs : List (List ℕ)). good (m, cs)) >>= λ (r : ℕ × List (List ℕ)). good (f r)) ≡ (c >> (o >>= λ (cs : List (List ℕ)). good (f (n, cs))))
+unfolding _>>_ _>>=_
+regroup (good tt) (good cs) n f = refl
+regroup (good tt) (bad x y) n f = refl
+regroup (bad x y) o n f = refl
 
 module _ (p : ℕ) (s : List ℕ) (h : Raw) (eh : headOf h ≡ head s) where
   pub not-open : {n q : ℕ} → bad n q ≡ optionRunLength p s (headOf h) → bad n q ≡ messageHere p s
-  unfolding messageHere checksOneToTen
-  not-open e = sym (stop _ _ (stop _ _ (rw (← eh) (sym e))))
+  unfolding messageHere checksOneToTen checksOneToNine
+  not-open e = sym (stop _ _ (stop _ _ (stop _ _ (rw (← eh) (sym e)))))
+
+  abbrev spotOf : Outcome ℕ → Outcome MessageSpot
+  spotOf o = (o >>= λ (n : ℕ). cut (p + payloadStart (head s)) (payload s (head s)) >>= λ (cs : List (List ℕ)). good (n, cs)) >>= λ (r : ℕ × List (List ℕ)). good (messageSpot p (head s) r)
 
   pub framing : (n : ℕ) {o : Outcome MessageSpot} → good n ≡ optionRunLength p s (headOf h) → o ≡ spotBehindRun p s (headOf h) n → o ≡ messageHere p s
-  unfolding messageHere checksOneToTen spotBehindRun
+  unfolding messageHere checksOneToTen checksOneToNine spotBehindRun
   framing n e f =
       let g : optionRunLength p s (head s) ≡ good n = rw (← eh) (sym e) in
-      (rw eh at f) ∙ sym (ap (λ (x : Outcome (ℕ × List (List ℕ))). x >>= λ (r : ℕ × List (List ℕ)). good (messageSpot p (head s) r)) (step _ _ g refl) ∙ regroup _ _ _)
+      (rw eh at f) ∙ sym (ap spotOf (step _ _ g refl) ∙ regroup _ _ _ _)
 
 -- ---- the message at a place of a recording
 module _ (s : List ℕ) (p : ℕ) where
@@ -110,10 +115,10 @@ module _ (s : List ℕ) (p : ℕ) where
 
   module _ (a : length s ≤ 65536) where
     pub behind : length s < p → bad SHORT p ≡ messageAt s p
-    unfolding messageAt messageHere checksOneToTen optionRunLength
+    unfolding messageAt messageHere checksOneToTen checksOneToNine optionRunLength
     behind b =
         let e : checksOneToSix p (drop p s) (head (drop p s)) ≡ bad SHORT p = sym (short p (drop p s) (head (drop p s)) (omega (arith, length-drop p s))) in
-        sym (pass _ _ _ _ (le-ltb 65536 (length s) a) (stop _ _ (stop _ _ (stop-before _ _ e))))
+        sym (pass _ _ _ _ (le-ltb 65536 (length s) a) (stop _ _ (stop _ _ (stop _ _ (stop-before _ _ e)))))
 
     pub here : {o : Outcome MessageSpot} → o ≡ messageHere p (take (length s - p) (drop p s)) → o ≡ messageAt s p
     unfolding messageAt messageHere

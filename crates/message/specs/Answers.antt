@@ -7,11 +7,11 @@ use mathlib.Core.Option.{Option, none, some}
 use lib.Dec.{ltb, eqb}
 use lib.ListN.{length}
 use denote.Ref.{RefT}
-use Rattle.rules.specs.Outcome.{Outcome, good, _>>=_, Told}
+use Rattle.rules.specs.Outcome.{Outcome, good, _>>_, _>>=_, Told}
 use Rattle.rules.specs.Bytes.{at, half, pad}
 use Rattle.rules.specs.Options.{optionSize, optionFits}
 use Rattle.rules.specs.Packages.{packageFits, cut}
-use Rattle.rules.specs.Message.{Head, head, checksEightToTen, checksOneToTen}
+use Rattle.rules.specs.Message.{Head, head, payloadStart, payload, checksEightAndNine, checksOneToTen}
 use Rattle.rules.specs.Reading.{MessageSpot, messageSpot}
 use Rattle.rules.specs.Walk.{PackageSpot}
 use Rattle.refusal.specs.Numbers.{numberOf, refused}
@@ -155,7 +155,8 @@ packageNumbers (packageRead.Refused r) = record { number = numberOf (r .why); pl
 -- checks 8 to 10, behind an option run of n bytes
 unfoldable pub spotBehindRun : ℕ → List ℕ → Head → ℕ → Outcome MessageSpot
 spotBehindRun p s h n = do
-  cs ← checksEightToTen p s h
+  checksEightAndNine p s h
+  cs ← cut (p + payloadStart h) (payload s h)
   good (messageSpot p h (n, cs))
 
 -- the message at the start of s, which stands at place p

@@ -10,7 +10,7 @@ use lib.Seq.{take-append-seam, drop-append-seam, drop-drop}
 use Rattle.rules.specs.Outcome.{good}
 use Rattle.rules.specs.Bytes.{at, word, pad, padded, part, join, oneIfAny}
 use Rattle.rules.specs.Packages.{Package, cut, pieceOf}
-use Rattle.rules.specs.Message.{Head, head, payloadStart, checksOneToSix, optionRunLength, checksEightToTen, checksOneToTen, Message, recordOf, message}
+use Rattle.rules.specs.Message.{Head, head, payloadStart, checksOneToSix, optionRunLength, checksEightAndNine, checksOneToNine, checksOneToTen, Message, recordOf, message}
 use Rattle.rules.specs.Writer.{write}
 use Rattle.rules.specs.Valid.{Valid}
 use Rattle.rules.proofs.Outcomes.{pass, pass-last, after, step}
@@ -147,16 +147,15 @@ module _ (m : Message) (v : Valid m) (t : List ℕ) where
     cut-again : cut (p + payloadStart header) (part (payloadStart header) (header .size) (write m ++ t)) ≡ good (map pieceOf (m .packages))
     cut-again = rw (words4, payload-part (write m ++ t) options payload t body) (complete (filled (v .packages)) (p + (24 + length options)))
 
-    checksEightToTen-again : checksEightToTen p (write m ++ t) header ≡ good (map pieceOf (m .packages))
-    unfolding checksEightToTen
-    checksEightToTen-again =
+    checksEightAndNine-again : checksEightAndNine p (write m ++ t) header ≡ good tt
+    unfolding checksEightAndNine
+    checksEightAndNine-again =
         pass _ _ _ _ (rw (eq-eqb ((m .flags + oneIfAny (m .packages) * 128) / 16 % 4) 0 (omega (arith, v .flags, any-le))))
-        (pass _ _ _ _ (rw (words4, payload-part (write m ++ t) options payload t body, any-pieces, eq-eqb ((m .flags + oneIfAny (m .packages) * 128) / 128 % 2) (oneIfAny (m .packages)) (seven (m .flags) (oneIfAny (m .packages)) any-le (v .flags))))
-        cut-again)
+        (pass-last _ _ _ (rw (words4, payload-part (write m ++ t) options payload t body, any-pieces, eq-eqb ((m .flags + oneIfAny (m .packages) * 128) / 128 % 2) (oneIfAny (m .packages)) (seven (m .flags) (oneIfAny (m .packages)) any-le (v .flags)))))
 
     checksOneToTen-again : checksOneToTen p (write m ++ t) header ≡ good (length (m .options), map pieceOf (m .packages))
-    unfolding checksOneToTen
-    checksOneToTen-again = step _ _ run-again (step _ _ checksEightToTen-again refl)
+    unfolding checksOneToTen checksOneToNine
+    checksOneToTen-again = step _ _ (step _ _ run-again (after _ _ checksEightAndNine-again refl)) (step _ _ cut-again refl)
 
     record-again : recordOf (write m ++ t) header (length (m .options), map pieceOf (m .packages)) ≡ m
     unfolding recordOf

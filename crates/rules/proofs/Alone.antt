@@ -8,7 +8,7 @@ use lib.ListN.{length, drop, length-append, length-drop, length-take, List·getD
 use lib.Seq.{take-append-le, drop-append-le}
 use Rattle.rules.specs.Outcome.{good}
 use Rattle.rules.specs.Bytes.{word, part, oneIfAny}
-use Rattle.rules.specs.Message.{head, payloadStart, checksOneToSix, optionRunLength, checksEightToTen, checksOneToTen}
+use Rattle.rules.specs.Message.{head, payloadStart, checksOneToSix, optionRunLength, checksEightAndNine, checksOneToNine, checksOneToTen}
 use Rattle.rules.specs.Clean.{cleanBytes, cleanForm}
 use Rattle.rules.proofs.Outcomes.{pass, pass-last, after, step, stepped}
 use Rattle.rules.proofs.Passed.{Passed, passes}
@@ -50,9 +50,10 @@ module _ (p : ℕ) (s t : List ℕ) (r : ℕ × List (List ℕ)) (w : Passed p s
   payload-part = part-append (payloadStart (head s)) (head s .size) s t (omega (arith, w .header .least, w .header .most)) (w .header .most)
 
   pub passes-before : checksOneToTen p (s ++ t) (head s) ≡ good r
-  unfolding checksOneToTen optionRunLength checksOneToSix checksEightToTen
+  unfolding checksOneToTen checksOneToNine optionRunLength checksOneToSix checksEightAndNine
   passes-before =
       step _ _
+      (step _ _
       (after _ _
       (pass _ _ _ _ (le-ltb (length (s ++ t)) 24 (omega (arith, length-append s t, w .header .long)))
       (pass _ _ _ _ (rw (eq-eqb (head s .version) 1 (w .header .version)))
@@ -61,11 +62,11 @@ module _ (p : ℕ) (s t : List ℕ) (r : ℕ × List (List ℕ)) (w : Passed p s
       (pass _ _ _ _ (le-ltb (length (s ++ t)) (head s .size) (omega (arith, length-append s t, w .header .most)))
       (pass-last _ _ _ (le-ltb 999999999 (head s .nanos) (w .header .nanos))))))))
       (rw options-part (w .options)))
-      (step _ _
+      (after _ _
       (pass _ _ _ _ (rw (eq-eqb (head s .flags / 16 % 4) 0 (w .fragment)))
-      (pass _ _ _ _ (rw (payload-part, eq-eqb (head s .flags / 128 % 2) (oneIfAny (part (payloadStart (head s)) (head s .size) s)) (w .standard)))
-      (rw payload-part (w .packages))))
-      refl)
+      (pass-last _ _ _ (rw (payload-part, eq-eqb (head s .flags / 128 % 2) (oneIfAny (part (payloadStart (head s)) (head s .size) s)) (w .standard)))))
+      refl))
+      (step _ _ (rw payload-part (w .packages)) refl)
 
   inside : 24 + r .0 ≤ length s
   inside =

@@ -1,22 +1,22 @@
 -- Each claim, proved by the laws.
 use Prim.Native.Nat.{ℕ, _+_, _≤_}
 use mathlib.Core.Path.{_≡_, refl, ap, sym, _∙_}
-use mathlib.Core.List.{List}
+use mathlib.Core.List.{List, [], _∷_, map}
 use native.Mathlib.Omega.{arith}
 use borrow.Author.Tests.{le-ltb}
-use lib.ListN.{length}
+use lib.ListN.{length, length-append}
 use Rattle.rules.specs.Outcome.{good, _>>=_, _>>_}
-use Rattle.rules.specs.Bytes.{part}
-use Rattle.rules.specs.Message.{headerBytes, notLarge, head, message, checksOneToTen}
-use Rattle.rules.specs.Reading.{header, optionRun}
+use Rattle.rules.specs.Bytes.{part, join}
+use Rattle.rules.specs.Message.{headerBytes, notLarge, head, Message, message, checksOneToNine, checksOneToTen}
+use Rattle.rules.specs.Reading.{header, optionRun, packagesOf, checkedRecording}
 use Rattle.rules.specs.Buffer.{fitted}
 use Rattle.rules.specs.Writer.{written, writer}
 use Rattle.rules.specs.Clean.{cleanForm, cleaner}
 use Rattle.rules.specs.Sheet.{Row}
-use Rattle.rules.specs.Copy.{releasedOf, roomFor, answered, copy}
+use Rattle.rules.specs.Copy.{Entry, packagesIn, releasedOf, roomFor, answered, copy}
 use Rattle.rules.specs.Burst.{randomized, opening, randomizer, opener}
-use Rattle.rules.specs.Claims.{BuffersKept, WrittenRead, AcceptedValid, ReadValid, ReadWritten, PartsWritten, WriterWrites, CleanerWrites, RoomRefused, SpotOfRecord, SpotExactly, CleanAlone, CleanTwice, CleanExactly, PackageExactly, PackagePlace, CutExactly, WalkShowsAll, WalkStays, GrantedExactly, Recurrence, BitPeriod, TableEntry, RandomizedTwice, RandomizedByte, BurstExactly, SameCopies, DifferentCopies, CountsReleased, SequenceCounted, ReleasedExactly, CopyRead, CopyNotLonger, CopyPlain, OneOutcome, partsOf}
-use Rattle.rules.proofs.Outcomes.{pass, step, stepped, good-inj}
+use Rattle.rules.specs.Claims.{BuffersKept, PremisesMet, CountsChecked, WrittenRead, AcceptedValid, ReadValid, ReadWritten, PartsWritten, WriterWrites, CleanerWrites, RoomRefused, SpotOfRecord, SpotExactly, CleanAlone, CleanTwice, CleanExactly, PackageExactly, PackagePlace, CutExactly, WalkShowsAll, WalkStays, GrantedExactly, Recurrence, BitPeriod, TableEntry, RandomizedTwice, RandomizedByte, BurstExactly, SameCopies, DifferentCopies, CountsReleased, SequenceCounted, ReleasedExactly, CopyRead, CopyNotLonger, CopyPlain, OneOutcome, partsOf}
+use Rattle.rules.proofs.Outcomes.{pass, step, stepped, came-after, good-inj}
 use Rattle.rules.proofs.Kept.{careful-stored, careful-answered, kept-randomized, kept-opened, writes, roomless}
 use Rattle.rules.proofs.Cut as Cut
 use Rattle.rules.proofs.Passed.{passes}
@@ -49,6 +49,12 @@ buffers-kept = record {
 
 -- ---- demand 2
 
+pub premises-met : PremisesMet
+premises-met = record {
+  bytes = λ s b. record { below = b };
+  draft = λ d i q t o p. record { id = i; sequence = q; seconds = t; options = o; packages = p };
+}
+
 pub written-read : WrittenRead
 written-read = RoundTrip.written-read
 
@@ -67,13 +73,15 @@ unfolding optionRun
 run-is s n e = rw (e, optionRun)
 
 parts-are : (s : List ℕ) (r : ℕ × List (List ℕ)) → length s ≤ 65536 → checksOneToTen 0 s (head s) ≡ good r → partsOf s (head s) ≡ parts s r
-unfolding checksOneToTen header
+unfolding checksOneToTen checksOneToNine header
 parts-are s r l q =
-    let (n, o, e) = stepped _ _ q in
-    let (cs, f, e) = stepped _ _ e in
-    let h : header s ≡ good (head s, n) = pass _ _ _ _ (le-ltb 65536 (length s) l) (step _ _ o refl) in
-    let z : n ≡ r .0 = ap (λ (x : ℕ × List (List ℕ)). x .0) (good-inj e) in
-    rw (run-is s n h, z)
+    let (n, p, e) = stepped _ _ q in
+    let (m, o, p) = stepped _ _ p in
+    let (f, p) = came-after _ _ p in
+    let (cs, g, e) = stepped _ _ e in
+    let h : header s ≡ good (head s, m) = pass _ _ _ _ (le-ltb 65536 (length s) l) (step _ _ o refl) in
+    let z : m ≡ r .0 = good-inj p ∙ ap (λ (x : ℕ × List (List ℕ)). x .0) (good-inj e) in
+    rw (run-is s m h, z)
 
 pub parts-give-clean : PartsWritten
 unfolding message cleanForm
@@ -113,7 +121,7 @@ pub clean-exactly : CleanExactly
 clean-exactly = RoundTrip.clean-exactly
 
 pub package-exactly : PackageExactly
-package-exactly p s b = exactly p s b
+package-exactly = exactly
 
 pub package-place : PackagePlace
 package-place p s n q e =
@@ -166,9 +174,24 @@ pub different-copies : DifferentCopies
 different-copies recording recording′ sheet sheet′ buffer buffer′ b b′ es es′ r r′ l l′ differ e =
     differ (same-list recording recording′ sheet sheet′ buffer buffer′ b b′ es es′ r r′ l l′ e)
 
+-- the packages of all entries, and of all messages, counted one by one and joined
+entries-joined : (es : List Entry) → packagesIn es ≡ length (join (map (λ (e : Entry). e .packages) es))
+unfolding packagesIn
+entries-joined [] = refl
+entries-joined (e ∷ es) = omega (arith, entries-joined es, length-append (e .packages) (join (map (λ (e : Entry). e .packages) es)))
+
+messages-joined : (ms : List Message) → packagesOf ms ≡ length (join (map (λ (m : Message). m .packages) ms))
+unfolding packagesOf
+messages-joined [] = refl
+messages-joined (m ∷ ms) = omega (arith, messages-joined ms, length-append (m .packages) (join (map (λ (m : Message). m .packages) ms)))
+
 pub counts-released : CountsReleased
 counts-released recording sheet buffer es r l =
-    (ap (λ (a : _). a .0) (copy-is recording sheet es r buffer l), delivered-is recording sheet es r buffer l)
+    (rw (← entries-joined es) (ap (λ (a : _). a .0) (copy-is recording sheet es r buffer l)), delivered-is recording sheet es r buffer l)
+
+pub counts-checked : CountsChecked
+unfolding checkedRecording
+counts-checked s ms e = step _ _ e (rw (← messages-joined ms))
 
 pub sequence-counted : SequenceCounted
 sequence-counted = copyMessages-snoc

@@ -8,7 +8,7 @@ use Rattle.rules.specs.Outcome.{good}
 use Rattle.rules.specs.Bytes.{part, oneIfAny}
 use Rattle.rules.specs.Options.{optionRunFrom}
 use Rattle.rules.specs.Packages.{cut}
-use Rattle.rules.specs.Message.{Head, payloadStart, checksOneToSix, optionRunLength, checksEightToTen, checksOneToTen}
+use Rattle.rules.specs.Message.{Head, payloadStart, checksOneToSix, optionRunLength, checksEightAndNine, checksOneToNine, checksOneToTen}
 use Rattle.rules.proofs.Outcomes.{passed, passed-last, came-after, stepped, neither}
 
 -- what a header that passes checks 1 to 6 says
@@ -50,18 +50,20 @@ pub record Passed (p : ℕ) (s : List ℕ) (h : Head) (r : ℕ × List (List ℕ
   pub packages : cut (p + payloadStart h) (part (payloadStart h) (h .size) s) ≡ good (r .1)
 
 pub passes : (p : ℕ) (s : List ℕ) (h : Head) (r : ℕ × List (List ℕ)) → checksOneToTen p s h ≡ good r → Passed p s h r
-unfolding checksOneToTen optionRunLength checksEightToTen
+unfolding checksOneToTen checksOneToNine optionRunLength checksEightAndNine
 passes p s h r e =
     let (n, o, e) = stepped _ _ e in
+    let (m, o, z) = stepped _ _ o in
     let (a, b) = came-after _ _ o in
-    let (cs, f, e) = stepped _ _ e in
+    let (f, z) = came-after _ _ z in
     let (c, f) = passed _ _ _ _ f in
-    let (d, f) = passed _ _ _ _ f in
-    let q : (n, cs) ≡ r = cc in
+    let d = passed-last _ _ _ f in
+    let (cs, k, e) = stepped _ _ e in
+    let q : (m, cs) ≡ r = cc in
     rw (← q) (record {
       header = sound p s h a;
       options = b;
       fragment = eqb-true _ _ (not-false _ c);
       standard = eqb-true _ _ (not-false _ d);
-      packages = f;
+      packages = k;
     })

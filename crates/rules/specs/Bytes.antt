@@ -37,7 +37,7 @@ abbrev pub padded : List ℕ → List ℕ
 padded s = s ++ replicate (pad (length s) - length s) 0
 
 -- lists one behind the other
-abbrev pub join : List (List ℕ) → List ℕ
+abbrev pub join : {A : Type 0} → List (List A) → List A
 join [] = []
 join (c ∷ cs) = c ++ join cs
 

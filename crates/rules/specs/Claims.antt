@@ -1,5 +1,5 @@
 -- The demands as statements, to be read without any proof. proofs/Claims.antt proves each; docs/PROMISES.md says which function's promise makes it speak of the code.
-use Prim.Native.Nat.{ℕ, _+_, _*_, _/_, _%_, _≤_, _<_}
+use Prim.Native.Nat.{ℕ, _+_, _*_, _/_, _%_, _^_, _≤_, _<_}
 use mathlib.Core.Path.{_≡_}
 use mathlib.Core.Logic.{_↔_}
 use mathlib.Core.Bool.{true, false}
@@ -7,17 +7,17 @@ use mathlib.Core.List.{List, [], _∷_, _++_, map}
 use mathlib.Core.Option.{some}
 use lib.ListN.{length, getD, take, drop}
 use Rattle.rules.specs.Outcome.{good, bad, PACKAGE, ROOM}
-use Rattle.rules.specs.Bytes.{Bytes, part, oneIfAny}
+use Rattle.rules.specs.Bytes.{Bytes, part, join}
 use Rattle.rules.specs.Items.{items, All}
 use Rattle.rules.specs.Packages.{Package, packageFits, cut, packageOf, Fills, instant, packageTime}
-use Rattle.rules.specs.Message.{headerBytes, mostBytes, Head, head, payloadStart, payload, recordBits, fragmentBits, standardBit, optionRunLength, Message, message}
-use Rattle.rules.specs.Reading.{optionRun, MessageSpot, messageAt}
+use Rattle.rules.specs.Message.{headerBytes, mostBytes, Head, head, payloadStart, payload, recordBits, checksOneToNine, Message, message, recording}
+use Rattle.rules.specs.Reading.{optionRun, MessageSpot, messageAt, checkedRecording}
 use Rattle.rules.specs.Walk.{PackageSpot, packageAt, dataAt, nextAt, Walks}
 use Rattle.rules.specs.Writer.{write, Draft, accepted, written, writer}
 use Rattle.rules.specs.Clean.{cleanForm, cleaner}
 use Rattle.rules.specs.Valid.{Valid, DraftFits}
 use Rattle.rules.specs.Sheet.{Row}
-use Rattle.rules.specs.Copy.{granted, Entry, grantedPackages, released, count, copyMessage, copyMessages, copyBytes, packagesIn, releasedOf, copy, delivered}
+use Rattle.rules.specs.Copy.{granted, Entry, grantedPackages, released, count, copyMessage, copyMessages, copyBytes, releasedOf, copy, delivered}
 use Rattle.rules.specs.Burst.{_xor_, bit, sequenceByte, sequenceBytes, randomized, randomizer, marker, blockSize, mostBlocks, opening, opener}
 
 -- ---- Demand 1: a refusal changes no byte of the caller's buffers, and what is written changes none behind it.
@@ -36,6 +36,11 @@ pub record BuffersKept : Type 0 where
   pub opener : (buffer : List ℕ) → (opener buffer .0 .number ≡ 0 → ⊥) → opener buffer .1 ≡ buffer
 
 -- ---- Demand 2: reading, writing, cleaning and copying equal document 01.
+
+-- Whatever numbers of 32 bits and runs of bytes a caller hands over, the premises `Bytes` and `DraftFits` below hold of them.
+pub record PremisesMet : Type 0 where
+  pub bytes : (s : List ℕ) → ((k : ℕ) → getD s k 0 < 256) → Bytes s
+  pub draft : (d : Draft) → d .id < 2 ^ 32 → d .sequence < 2 ^ 32 → d .seconds < 2 ^ 32 → Bytes (d .options) → Bytes (d .packages) → DraftFits d
 
 -- Written and read again gives the same record, wherever it stands and whatever follows it.
 abbrev pub WrittenRead : Type 0
@@ -109,15 +114,13 @@ pub record SpotExactly : Type 0 where
   pub told : (s : List ℕ) (p : ℕ) → length s ≤ mostBytes → (m : Message) (n : ℕ) → message p (drop p s) ≡ good (m, n) → (k : MessageSpot) × (messageAt s p ≡ good k)
   pub refused : (s : List ℕ) (p : ℕ) → length s ≤ mostBytes → (n q : ℕ) → message p (drop p s) ≡ bad n q → messageAt s p ≡ bad n q
 
--- A payload is refused as PACKAGE exactly if no cut into packages fills it. The message at the start of s has passed checks 1 to 9.
-pub record PassesToNine (p : ℕ) (s : List ℕ) : Type 0 where
-  pub run : ℕ
-  pub options : optionRunLength p s (head s) ≡ good run
-  pub whole : fragmentBits (head s .flags) ≡ 0
-  pub standard : standardBit (head s .flags) ≡ oneIfAny (payload s (head s))
+-- A recording checked: how many messages it has, and how many packages, those of all messages joined.
+abbrev pub CountsChecked : Type 0
+CountsChecked = (s : List ℕ) (ms : List Message) → recording s ≡ good ms → checkedRecording s ≡ good (length ms, length (join (map (λ (m : Message). m .packages) ms)))
 
+-- Where checks 1 to 9 pass, a payload is refused as PACKAGE exactly if no cut into packages fills it.
 abbrev pub PackageExactly : Type 0
-PackageExactly = (p : ℕ) (s : List ℕ) → PassesToNine p s
+PackageExactly = (p : ℕ) (s : List ℕ) (n : ℕ) → checksOneToNine p s (head s) ≡ good n
     → ((q : ℕ) × (message p s ≡ bad PACKAGE q)) ↔ ((pieces : List (List ℕ)) → Fills pieces (payload s (head s)) → ⊥)
 
 -- The packages fill the payload, in one way only: a run is cut into these pieces exactly if they fill it.
@@ -189,10 +192,10 @@ DifferentCopies = (recording recording′ sheet sheet′ buffer buffer′ : List
     → releasedOf recording sheet ≡ good es → releasedOf recording′ sheet′ ≡ good es′ → length (copyBytes es) ≤ length buffer → length (copyBytes es′) ≤ length buffer′
     → (es ≡ es′ → ⊥) → delivered (copy recording sheet buffer) ≡ delivered (copy recording′ sheet′ buffer′) → ⊥
 
--- With room, the copy is the released list's, and its counts are the released list's lengths.
+-- With room, the copy is the released list's, and its counts are the released list's lengths: of its entries, and of their packages joined.
 abbrev pub CountsReleased : Type 0
 CountsReleased = (recording sheet buffer : List ℕ) (es : List Entry) → releasedOf recording sheet ≡ good es → length (copyBytes es) ≤ length buffer
-    → (copy recording sheet buffer .0 ≡ record { number = 0; place = 0; bytes = length (copyBytes es); messages = length es; packages = packagesIn es })
+    → (copy recording sheet buffer .0 ≡ record { number = 0; place = 0; bytes = length (copyBytes es); messages = length es; packages = length (join (map (λ (e : Entry). e .packages) es)) })
     × (delivered (copy recording sheet buffer) ≡ copyBytes es)
 
 -- The sequence number of an entry's message is how many of the entries before it have its message id.

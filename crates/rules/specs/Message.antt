@@ -84,18 +84,24 @@ optionRunLength p s h = do
   checksOneToSix p s h
   optionRunFrom zero (p + headerBytes) zero (part headerBytes (payloadStart h) s)
 
--- checks 8 to 10: the pieces that its packages take
-unfoldable pub checksEightToTen : ℕ → List ℕ → Head → Outcome (List (List ℕ))
-checksEightToTen p s h = do
+-- checks 8 and 9
+unfoldable pub checksEightAndNine : ℕ → List ℕ → Head → Outcome (Unit {0})
+checksEightAndNine p s h = do
   refuse (not (eqb (fragmentBits (h .flags)) 0)) FRAGMENT p
   refuse (not (eqb (standardBit (h .flags)) (oneIfAny (payload s h)))) STANDARD p
-  cut (p + payloadStart h) (payload s h)
 
--- checks 1 to 10: the length of its option run, and the pieces
+-- checks 1 to 9: the length of its option run
+unfoldable pub checksOneToNine : ℕ → List ℕ → Head → Outcome ℕ
+checksOneToNine p s h = do
+  n ← optionRunLength p s h
+  checksEightAndNine p s h
+  good n
+
+-- checks 1 to 10: also the pieces that its packages take
 unfoldable pub checksOneToTen : ℕ → List ℕ → Head → Outcome (ℕ × List (List ℕ))
 checksOneToTen p s h = do
-  n ← optionRunLength p s h
-  cs ← checksEightToTen p s h
+  n ← checksOneToNine p s h
+  cs ← cut (p + payloadStart h) (payload s h)
   good (n, cs)
 
 -- a message record; flags holds bits 6, 3, 2, 1 and 0, each at its place
