@@ -1,5 +1,6 @@
 -- The laws of the rules, and the proofs of the claims.
 pub mod Table
+pub mod Edges
 pub mod Outcomes
 pub mod Numbers
 pub mod Walk

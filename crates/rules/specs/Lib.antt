@@ -15,4 +15,5 @@ pub mod Sheet
 pub mod Copy
 pub mod Burst
 pub mod Table
+pub mod Edges
 pub mod Claims
