@@ -1,4 +1,4 @@
--- Each claim, proved by the laws.
+-- Each claim, proved by the laws; and all of them as one.
 use Prim.Native.Nat.{ℕ, _+_, _≤_}
 use mathlib.Core.Path.{_≡_, refl, ap, sym, _∙_}
 use mathlib.Core.List.{List, [], _∷_, map}
@@ -15,7 +15,7 @@ use Rattle.rules.specs.Clean.{cleanForm, cleaner}
 use Rattle.rules.specs.Sheet.{Row}
 use Rattle.rules.specs.Copy.{Entry, packagesIn, releasedOf, roomFor, answered, copy}
 use Rattle.rules.specs.Burst.{randomized, opening, randomizer, opener}
-use Rattle.rules.specs.Claims.{BuffersKept, PremisesMet, CountsChecked, WrittenRead, AcceptedValid, ReadValid, ReadWritten, PartsWritten, WriterWrites, CleanerWrites, RoomRefused, SpotOfRecord, SpotExactly, CleanAlone, CleanTwice, CleanExactly, PackageExactly, PackagePlace, CutExactly, WalkShowsAll, WalkStays, GrantedExactly, Recurrence, BitPeriod, TableEntry, RandomizedTwice, RandomizedByte, BurstExactly, SameCopies, DifferentCopies, CountsReleased, SequenceCounted, ReleasedExactly, CopyRead, CopyNotLonger, CopyPlain, OneOutcome, partsOf}
+use Rattle.rules.specs.Claims.{BuffersKept, PremisesMet, CountsChecked, WrittenRead, AcceptedValid, ReadValid, ReadWritten, PartsWritten, WriterWrites, CleanerWrites, RoomRefused, SpotOfRecord, SpotExactly, CleanAlone, CleanTwice, CleanExactly, PackageExactly, PackagePlace, CutExactly, WalkShowsAll, WalkStays, GrantedExactly, Recurrence, BitPeriod, TableEntry, RandomizedTwice, RandomizedByte, BurstExactly, SameCopies, DifferentCopies, CountsReleased, SequenceCounted, ReleasedExactly, CopyRead, CopyNotLonger, CopyPlain, OneOutcome, Claims, partsOf}
 use Rattle.rules.proofs.Outcomes.{pass, step, stepped, came-after, good-inj}
 use Rattle.rules.proofs.Kept.{careful-stored, careful-answered, kept-randomized, kept-opened, writes, roomless}
 use Rattle.rules.proofs.Cut as Cut
@@ -30,6 +30,8 @@ use Rattle.rules.proofs.Sequence as Sequence
 use Rattle.rules.proofs.Bursts.{randomizer-is, burst-exactly}
 use Rattle.rules.specs.Table.{Table}
 use Rattle.rules.proofs.Table.{table}
+use Rattle.rules.specs.Edges.{Edges}
+use Rattle.rules.proofs.Edges.{edges}
 use Rattle.rules.proofs.Growing.{copyMessages-snoc, released-append, granted-append, granted-one, granted-none, released-entry, released-none}
 use Rattle.rules.proofs.Interference.{copy-is, copy-roomless, delivered-is, same-list, copy-read, copy-short, copy-plain}
 use Rattle.rules.proofs.Spots.{of-record, spot-read, spot-refused}
@@ -164,6 +166,9 @@ burst-is = burst-exactly
 pub table-holds : Table
 table-holds = table
 
+pub edges-hold : Edges
+edges-hold = edges
+
 -- ---- demand 3
 
 pub same-copies : SameCopies
@@ -219,3 +224,19 @@ copy-is-plain = copy-plain
 
 pub one-outcome : OneOutcome
 one-outcome A B told apart d a b p q = apart a b (p ∙ sym q)
+
+-- ---- all of it
+
+pub all-claims : Claims
+all-claims = record {
+  buffers = (buffers-kept, room-refused);
+  premises = (premises-met, accepted-is-valid, read-valid);
+  reading = (spot-of-record, spot-exactly, counts-checked, package-exactly, cut-exactly, package-place, walk-shows-all, walk-stays);
+  writing = (written-read, read-written, parts-give-clean, writer-writes);
+  cleaning = (cleaner-writes, clean-alone, clean-twice, clean-exactly);
+  copying = (granted-by-ranges, released-exactly, sequence-counted, counts-released, copy-is-read, copy-not-longer, copy-is-plain);
+  bursts = (recurrence, bit-period, table-entry, randomized-twice, randomized-byte, burst-is);
+  silence = (same-copies, different-copies);
+  outcomes = one-outcome;
+  numbers = (table-holds, edges-hold);
+}

@@ -1,4 +1,4 @@
--- The demands as statements, to be read without any proof. proofs/Claims.antt proves each; docs/PROMISES.md says which function's promise makes it speak of the code.
+-- The demands as statements, to be read without any proof. proofs/Claims.antt proves each, and all of them as one; docs/PROMISES.md says which function's promise makes it speak of the code.
 use Prim.Native.Nat.{ℕ, _+_, _*_, _/_, _%_, _^_, _≤_, _<_}
 use mathlib.Core.Path.{_≡_}
 use mathlib.Core.Logic.{_↔_}
@@ -18,6 +18,8 @@ use Rattle.rules.specs.Clean.{cleanForm, cleaner}
 use Rattle.rules.specs.Valid.{Valid, DraftFits}
 use Rattle.rules.specs.Sheet.{Row}
 use Rattle.rules.specs.Copy.{granted, Entry, grantedPackages, released, count, copyMessage, copyMessages, copyBytes, releasedOf, copy, delivered}
+use Rattle.rules.specs.Table.{Table}
+use Rattle.rules.specs.Edges.{Edges}
 use Rattle.rules.specs.Burst.{_xor_, bit, sequenceByte, sequenceBytes, randomized, randomizer, marker, blockSize, mostBlocks, opening, opener}
 
 -- ---- Demand 1: a refusal changes no byte of the caller's buffers, and what is written changes none behind it.
@@ -238,3 +240,17 @@ TellsApart {A} told = (a b : A) → told a ≡ told b → a ≡ b
 
 abbrev pub OneOutcome : Type 1
 OneOutcome = (A B : Type 0) (told : A → B) → TellsApart told → (d : B) (a b : A) → told a ≡ d → told b ≡ d → a ≡ b
+
+-- ---- All of it: every statement above, P1 to P12, and the rules at their edges.
+
+pub record Claims : Type 1 where
+  pub buffers : BuffersKept × RoomRefused
+  pub premises : PremisesMet × AcceptedValid × ReadValid
+  pub reading : SpotOfRecord × SpotExactly × CountsChecked × PackageExactly × CutExactly × PackagePlace × WalkShowsAll × WalkStays
+  pub writing : WrittenRead × ReadWritten × PartsWritten × WriterWrites
+  pub cleaning : CleanerWrites × CleanAlone × CleanTwice × CleanExactly
+  pub copying : GrantedExactly × ((rows : List Row) → ReleasedExactly rows) × SequenceCounted × CountsReleased × CopyRead × CopyNotLonger × CopyPlain
+  pub bursts : Recurrence × BitPeriod × TableEntry × RandomizedTwice × RandomizedByte × BurstExactly
+  pub silence : SameCopies × DifferentCopies
+  pub outcomes : OneOutcome
+  pub numbers : Table × Edges
