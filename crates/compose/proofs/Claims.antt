@@ -1,6 +1,6 @@
 -- A promise allows one outcome alone; and what the promises say of records: written and read again, read and written again, cleaned twice.
 use Prim.Native.Nat.{ℕ, _+_, _≤_}
-use mathlib.Core.Path.{_≡_, refl, ap, sym}
+use mathlib.Core.Path.{_≡_, refl, ap, sym, _∙_}
 use mathlib.Core.List.{List, _++_}
 use native.Mathlib.Omega.{arith}
 use borrow.Author.Tests.{le-ltb}
@@ -66,6 +66,16 @@ cleaned-again s b m n v h e l = record {
   written = kept (notLarge s >> cleanForm s) (write m) b (pass _ _ _ _ (le-ltb 65536 (length s) h) (read-written s v m n e)) l;
   read = rw (stands (write m) b l) (written-read m (read-valid 0 s v h m n e) 0 _);
 }
+
+-- so the answer that a promise allows says how many bytes were written, and the buffer that it leaves is read as the record
+pub record Stands (m : Message) (a : Written) (after : List ℕ) : Type 0 where
+  pub bytes : a ≡ Done (length (write m))
+  pub read : message 0 after ≡ good (m, length (write m))
+
+pub promised : {m : Message} {b : List ℕ} {w : answers.Written × List ℕ} → Again m b w → (a : Written) (after : List ℕ) → told a after ≡ w → Stands m a after
+promised {m} {b} g a after e =
+    let same = tells-apart (a, after) (Done (length (write m)), sets b 0 (write m)) (e ∙ sym (g .written)) in
+    record { bytes = ap (λ (x : Written × List ℕ). x .0) same; read = ap (λ (x : Written × List ℕ). message 0 (x .1)) same ∙ g .read }
 
 -- and the buffer, cleaned again, gives the same bytes
 pub cleaned-twice : (s b c : List ℕ) → Bytes s → Bytes b → length s ≤ 65536 → cleanForm s ≡ good c → length c ≤ length b → cleanForm (sets b 0 c) ≡ good c

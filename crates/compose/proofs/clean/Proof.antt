@@ -1,13 +1,21 @@
 -- `compose::clean` meets its contract: what was read, refused or finished as a draft of its own parts.
-use Prim.Native.Nat.{ℕ}
+use Prim.Native.Nat.{ℕ, _≤_}
 use mathlib.Core.Path.{_≡_, ap, sym, _∙_}
 use mathlib.Core.List.{List}
 use native.Mathlib.Omega.{arith}
 use borrow.Author.Needs.{needs}
+use lib.ListN.{length}
 use Rattle.rules.specs.Outcome.{good}
 use Rattle.rules.specs.Bytes.{Bytes}
 use Rattle.message.specs.Answers.{spotOfMessage, toldMessage}
+use Rattle.rules.specs.Message.{Message, message}
 use Rattle.rules.specs.Reading.{MessageSpot, messageAt}
+use Rattle.rules.specs.Writer.{write}
+use Rattle.rules.specs.Clean.{cleaner}
+use Rattle.rules.proofs.Claims.{premises-met}
+use Rattle.compose.specs.declared.Written.{Written}
+use Rattle.compose.specs.Told.{told}
+use Rattle.compose.proofs.Claims.{Stands, promised, cleaned-again}
 use Rattle.compose.proofs.Cleaning.{Read, reads, clean-refused, clean-fits, clean-finished}
 use Rattle.compose.proofs.clean.Statement.{statement}
 use Rattle.compose.proofs.clean.Tie as tie
@@ -19,8 +27,12 @@ S c = c .before .before .before .before .before .args .s .now
 abbrev K : tie.After-m → MessageSpot
 K c = spotOfMessage (c .m .given .0 .0)
 
+-- whatever a caller hands over is bytes
+pub handed-bytes : (c : tie.After-shared-slice-known) → Bytes (c .before .args .s .now)
+handed-bytes c = premises-met .bytes _ (λ k. omega (arith, c .shared-slice-known .given k))
+
 bytes : (c : tie.After-m) → Bytes (S c)
-bytes c = record { below = λ k. omega (arith, c .before .before .before .before .shared-slice-known .given k) }
+bytes c = handed-bytes (c .before .before .before .before)
 
 read-told : (c : tie.After-m) → good (K c) ≡ messageAt (S c) 0
 read-told c = ap toldMessage (sym (c .m .given .1)) ∙ c .before .before .message-at .ensures
@@ -90,6 +102,11 @@ returns-2 : tie.Need-returns-2
 returns-2 c =
     let m = c .before .before .before .before .before .before .before .before .before .before .before in
     c .before .before .finish .ensures ∙ rw (c .before .before .before .before .before .before .record-of .ensures) (clean-finished (S m) (m .before .before .before .before .before .args .out .now) (K m) (bytes m) (read-told m))
+
+-- so at every call the buffer that the promise allows is read as the record that was read
+pub every-call : (c : tie.After-shared-slice-known) (b : List ℕ) {m : Message} {n : ℕ} → length (c .before .args .s .now) ≤ 65536 → message 0 (c .before .args .s .now) ≡ good (m, n) → length (write m) ≤ length b
+    → (a : Written) (after : List ℕ) → told a after ≡ cleaner (c .before .args .s .now) b → Stands m a after
+every-call c b h e l = promised (cleaned-again (c .before .args .s .now) b _ _ (handed-bytes c) h e l)
 
 pub clean-spec : {M : Type 1} → statement M
 clean-spec =
