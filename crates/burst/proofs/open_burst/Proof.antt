@@ -1,13 +1,17 @@
 -- `burst::open_burst` meets its contract: each answer with the tests that led to it.
-use Prim.Native.Nat.{ℕ, _≤_}
+use Prim.Native.Nat.{ℕ, _+_, _*_, _≤_}
 use mathlib.Core.Path.{_≡_, ap, sym, _∙_}
 use mathlib.Core.Bool.{true}
-use mathlib.Core.List.{List}
+use mathlib.Core.Logic.{_↔_}
+use mathlib.Core.List.{List, _++_}
 use native.Mathlib.Omega.{arith}
-use lib.ListN.{length}
+use lib.ListN.{length, take, drop}
 use borrow.Author.Needs.{needs}
 use borrow.Author.Tests.{not-true, not-false}
-use Rattle.rules.specs.Burst.{marked, blocksFit}
+use Rattle.rules.specs.Outcome.{good}
+use Rattle.rules.specs.Bytes.{Bytes}
+use Rattle.rules.specs.Burst.{marker, marked, blockSize, mostBlocks, blocksFit, randomized, opening}
+use Rattle.rules.proofs.Claims.{burst-is, all-claims}
 use Rattle.burst.specs.declared.Opened.{Opened}
 use Rattle.burst.specs.Told.{toldOpened}
 use Rattle.burst.proofs.Buffer.{behind}
@@ -100,6 +104,18 @@ returns-4 c =
     let e = c .before .before .before .before .before in
     let s = S (e .before .before .before) in
     opener-done s (e .before .before .if1 .left) (begins (e .before)) (c .blocks-in .result) _ (whole e) (c .blocks-in .ensures) (behind 8 s (r .last .0) (r .ensures))
+
+-- ---- whatever a caller hands over is bytes; so at every call a burst is opened exactly if it is the marker and whole codeblocks
+
+abbrev handed : tie.After-slice-known → List ℕ
+handed c = c .before .args .buf .now
+
+pub handed-bytes : (c : tie.After-slice-known) → Bytes (handed c)
+handed-bytes c = all-claims .premises .0 .bytes _ (λ k. omega (arith, c .slice-known .given k))
+
+pub every-call : (c : tie.After-slice-known) (blocks : ℕ) (after : List ℕ) → (opening (handed c) ≡ good (blocks, after)) ↔ ((take (length marker) (handed c) ≡ marker)
+    × (1 ≤ blocks) × (blocks ≤ mostBlocks) × (length (handed c) ≡ length marker + blocks * blockSize) × (after ≡ marker ++ randomized 0 (drop (length marker) (handed c))))
+every-call c = burst-is (handed c) (handed-bytes c)
 
 pub open-burst-spec : {M : Type 1} → statement M
 open-burst-spec =
