@@ -15,7 +15,7 @@ use Rattle.rules.specs.Packages.{packageFits, piece, packageOf, pieceOf}
 use Rattle.rules.specs.Message.{notLarge, head, checksOneToSix, optionRunLength, checksEightAndNine, checksOneToNine, checksOneToTen, recordOf, message, recording}
 use Rattle.rules.specs.Buffer.{fitted, stored}
 use Rattle.rules.specs.Writer.{write, drafted, accepted, written}
-use Rattle.rules.specs.Reading.{header, optionRun, messageSpot, messageAt}
+use Rattle.rules.specs.Reading.{header, optionStart, messageSpot, messageAt}
 use Rattle.rules.specs.Walk.{packageSpot, packageAt, dataAt, startAt, nextAt}
 use Rattle.rules.specs.Clean.{cleanPiece, cleanBytes, cleanForm, cleaner}
 use Rattle.rules.specs.Sheet.{Row, bigEndian, rowOf, rowFits, row, sheet, sheetRows, shownRows, grants}
@@ -98,10 +98,11 @@ module _ (s : List ℕ) where
 -- ---- all of them
 
 pub edges : Edges
-unfolding refuse _>>_ _>>=_ _∷>_ half word items lengthAllowed optionSize optionFits optionRunFrom packageFits piece packageOf pieceOf head checksOneToSix optionRunLength checksEightAndNine checksOneToNine checksOneToTen recordOf message recording header messageSpot messageAt packageSpot packageAt dataAt startAt nextAt write drafted accepted written cleanPiece cleanBytes cleanForm cleaner fitted stored bigEndian rowOf rowFits row sheet sheetRows shownRows grants granted grantedPackages withEntryOf released count copyMessage copyMessages copyBytes packagesIn releasedOf roomFor answered copy opening randomizedAnswer randomizer
+unfolding refuse _>>_ _>>=_ _∷>_ half word items lengthAllowed optionSize optionFits optionRunFrom packageFits piece packageOf pieceOf head checksOneToSix optionRunLength checksEightAndNine checksOneToNine checksOneToTen recordOf message recording header optionStart messageSpot messageAt packageSpot packageAt dataAt startAt nextAt write drafted accepted written cleanPiece cleanBytes cleanForm cleaner fitted stored bigEndian rowOf rowFits row sheet sheetRows shownRows grants granted grantedPackages withEntryOf released count copyMessage copyMessages copyBytes packagesIn releasedOf roomFor answered copy opening randomizedAnswer randomizer
 edges = record {
   headerFields = refl;
   lengths = refl;
+  starts = refl;
   runs = refl;
   packageFields = refl;
   sizes = refl;

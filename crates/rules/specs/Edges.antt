@@ -8,14 +8,14 @@ use lib.ListN.{length, take, drop, set, replicate}
 use Rattle.rules.specs.Outcome.{Outcome, good, bad, _>>=_, SHORT, VERSION, TYPE, LENGTH, CUT, TIME, OPTION, FRAGMENT, STANDARD, PACKAGE, ROW, LARGE, ROOM, MARKER, BLOCKS}
 use Rattle.rules.specs.Bytes.{join}
 use Rattle.rules.specs.Message.{Message, recording}
-use Rattle.rules.specs.Reading.{header, messageAt}
+use Rattle.rules.specs.Reading.{header, optionStart, messageAt}
 use Rattle.rules.specs.Walk.{packageAt, startAt, nextAt, dataAt}
 use Rattle.rules.specs.Writer.{Draft, written}
 use Rattle.rules.specs.Clean.{cleanForm, cleaner}
 use Rattle.rules.specs.Sheet.{Row, sheet, sheetRows, shownRows}
 use Rattle.rules.specs.Copy.{releasedOf, copy, delivered}
 use Rattle.rules.specs.Burst.{marker, opening, randomizer}
-use Rattle.rules.specs.Table.{words, M, R}
+use Rattle.rules.specs.Table.{words, M, optionsWith, R}
 
 -- ---- What is tried, and how it is told.
 
@@ -83,7 +83,8 @@ pub record Edges : Type 0 where
       (0x80, 2 ∷ 3 ∷ 5 ∷ 6 ∷ 7 ∷ 17 ∷ 18 ∷ 19 ∷ 32 ∷ 33 ∷ 60 ∷ []) ∷ (0x81, 2 ∷ 3 ∷ 5 ∷ 6 ∷ 7 ∷ 17 ∷ 18 ∷ 19 ∷ 32 ∷ 33 ∷ 60 ∷ [])
       ∷ (0x82, 3 ∷ 5 ∷ 6 ∷ 7 ∷ 17 ∷ 18 ∷ 19 ∷ 32 ∷ []) ∷ (0x83, 3 ∷ 5 ∷ 6 ∷ 7 ∷ 17 ∷ 18 ∷ 19 ∷ 32 ∷ []) ∷ (0x84, 3 ∷ 5 ∷ 6 ∷ 7 ∷ 17 ∷ 18 ∷ 19 ∷ 32 ∷ [])
       ∷ (0x85, 6 ∷ 18 ∷ []) ∷ (0x86, 6 ∷ []) ∷ (0x87, 6 ∷ []) ∷ (0x88, 2 ∷ 3 ∷ 5 ∷ 6 ∷ 7 ∷ 17 ∷ 18 ∷ 19 ∷ 32 ∷ 33 ∷ 60 ∷ []) ∷ (0xFF, 2 ∷ 3 ∷ 5 ∷ 6 ∷ 7 ∷ 17 ∷ 18 ∷ 19 ∷ 32 ∷ 33 ∷ 60 ∷ []) ∷ [])
-  -- one-byte kinds; a kind at the last byte; options that end with the option bytes and behind them; what follows 0x00; a zero in data; the second option's place
+  -- where the option run begins, and a refused one; one-byte kinds; a kind at the last byte; options that end with the option bytes and behind them; what follows 0x00; a zero in data; the second option's place
+  pub starts : Gives optionStart ((optionsWith 0x87060000, 24) ∷ (optionsWith 0x87050000, 0) ∷ [])
   pub runs : Gives (λ (w : ℕ). runOf (words (w ∷ []))) (
       (0x017F017F, good 4) ∷ (0x01010180, bad OPTION 27) ∷ (0x80040000, good 4) ∷ (0x80050000, bad OPTION 24) ∷ (0x01800400, bad OPTION 25) ∷ (0x010080FF, good 1) ∷ (0x80030001, good 4) ∷ (0x80028202, bad OPTION 26) ∷ [])
   -- ---- Packages: every field of one; L and the bytes left; a walk at packages, at other places, at the end and behind it.
@@ -134,8 +135,8 @@ pub record Edges : Type 0 where
   pub fits : (s : List ℕ) → length s ≡ 65524 → readings (replicate 12 0 ++ s) ≡ (PACKAGE, 0) ∷ (VERSION, 0) ∷ (VERSION, 0) ∷ (VERSION, 0) ∷ (VERSION, 0) ∷ (MARKER, 0) ∷ (VERSION, 0) ∷ (0, 0) ∷ []
   pub large : (s : List ℕ) → length s ≡ 65525 → readings (replicate 12 0 ++ s) ≡ replicate 8 (LARGE, 65536)
   pub sheetFirst : (s : List ℕ) → releasedOf s (take 31 R) ≡ bad ROW 31
-  -- the writer: 60 bytes of options and 61, TIME before that, kind 0x00, a bad option before a bad package, a zero in data; 65,536 bytes and one more
+  -- the writer: 60 bytes of options and 61, TIME before that, kind 0x00, a bad option before a bad package, a zero in data, a package without its padding; 65,536 bytes and one more
   pub drafts : Gives (λ (d : Draft). told (written d)) (
       (draft 999999999 (replicate 60 0x01) [], (0, 0)) ∷ (draft 1000000000 (replicate 61 0x01) [], (TIME, 0)) ∷ (draft 0 (0x82 ∷ replicate 60 0x02) (0 ∷ []), (OPTION, 60)) ∷ (draft 0 (0x01 ∷ 0x00 ∷ []) (0 ∷ []), (OPTION, 1))
-      ∷ (draft 0 (0x01 ∷ 0x82 ∷ 0x02 ∷ []) (0 ∷ []), (OPTION, 1)) ∷ (draft 0 (0x80 ∷ 0x03 ∷ 0x00 ∷ []) [], (0, 0)) ∷ (draft 0 [] (words (1 ∷ 0x000C0000 ∷ 0 ∷ 2 ∷ [])), (PACKAGE, 12)) ∷ [])
+      ∷ (draft 0 (0x01 ∷ 0x82 ∷ 0x02 ∷ []) (0 ∷ []), (OPTION, 1)) ∷ (draft 0 (0x80 ∷ 0x03 ∷ 0x00 ∷ []) [], (0, 0)) ∷ (draft 0 [] (words (1 ∷ 0x000C0000 ∷ 0 ∷ 2 ∷ [])), (PACKAGE, 12)) ∷ (draft 0 [] (words (1 ∷ 0x000D0000 ∷ 0 ∷ []) ++ (0xAA ∷ [])), (PACKAGE, 0)) ∷ [])
   pub draftsLarge : (o q : List ℕ) → length o ≡ 1 → (length q ≡ 65508 → told (written (draft 1000000000 o q)) ≡ (TIME, 0)) × (length q ≡ 65509 → told (written (draft 1000000000 o q)) ≡ (LARGE, 65536))
