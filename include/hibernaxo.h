@@ -47,7 +47,8 @@ enum hibernaxo_refusal {
 #define HIBERNAXO_WRITE_VALUES 2
 #define HIBERNAXO_CLEAN_VALUES 2
 #define HIBERNAXO_SHEET_VALUES 258
-#define HIBERNAXO_COPY_VALUES 4
+#define HIBERNAXO_COPY_MEASURE_VALUES 4
+#define HIBERNAXO_COPY_WRITE_VALUES 4
 #define HIBERNAXO_RANDOMIZE_VALUES 1
 #define HIBERNAXO_OPEN_BURST_VALUES 2
 
@@ -86,10 +87,16 @@ uint32_t hibernaxo_clean(const uint8_t *bytes, size_t bytes_length, uint8_t *out
  * end seconds, end nanoseconds. */
 uint32_t hibernaxo_sheet(const uint8_t *sheet, size_t sheet_length, uint64_t values[HIBERNAXO_SHEET_VALUES]);
 
-/* Writes the copy of a recording under an order sheet into out (refusals 11, 12, 1 to 10 and 13).
- * values: [1] bytes, [2] messages, [3] packages written; bytes of out behind them stay. */
-uint32_t hibernaxo_copy(const uint8_t *recording, size_t recording_length, const uint8_t *sheet, size_t sheet_length,
-                        uint8_t *out, size_t out_length, uint64_t values[HIBERNAXO_COPY_VALUES]);
+/* Measures the copy of a recording under an order sheet, and writes nothing (refusals 11, 12 and 1 to 10).
+ * values: [1] bytes, [2] messages, [3] packages that the copy has. */
+uint32_t hibernaxo_copy_measure(const uint8_t *recording, size_t recording_length, const uint8_t *sheet,
+                                size_t sheet_length, uint64_t values[HIBERNAXO_COPY_MEASURE_VALUES]);
+
+/* Writes the copy of a recording under an order sheet into out (refusals 11, 12, 1 to 10 and 13). A buffer of the
+ * measured bytes has room. values: [1] bytes, [2] messages, [3] packages written; bytes of out behind them stay. */
+uint32_t hibernaxo_copy_write(const uint8_t *recording, size_t recording_length, const uint8_t *sheet,
+                              size_t sheet_length, uint8_t *out, size_t out_length,
+                              uint64_t values[HIBERNAXO_COPY_WRITE_VALUES]);
 
 /* Randomizes a buffer (refusal 12). A second call gives its bytes back. There is no value but the place. */
 uint32_t hibernaxo_randomize(uint8_t *buf, size_t buf_length, uint64_t values[HIBERNAXO_RANDOMIZE_VALUES]);

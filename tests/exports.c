@@ -390,22 +390,28 @@ static void sheets(void)
 static void copies(void)
 {
     struct lent s = input(M), none = zeros(0), sheet = input(R), out = buffer(48);
-    CALL(hibernaxo_copy, s.bytes, s.length, sheet.bytes, sheet.length, out.bytes, out.length, values(HIBERNAXO_COPY_VALUES));
+    CALL(hibernaxo_copy_measure, s.bytes, s.length, sheet.bytes, sheet.length, values(HIBERNAXO_COPY_MEASURE_VALUES));
+    EXPECT(HIBERNAXO_OK, 0, 40, 1, 1);
+    CALL(hibernaxo_copy_measure, none.bytes, none.length, sheet.bytes, sheet.length, values(HIBERNAXO_COPY_MEASURE_VALUES));
+    EXPECT(HIBERNAXO_OK, 0, 0, 0, 0);
+    CALL(hibernaxo_copy_measure, s.bytes, s.length, s.bytes, s.length, values(HIBERNAXO_COPY_MEASURE_VALUES));
+    EXPECT(HIBERNAXO_ROW, 56);
+    CALL(hibernaxo_copy_write, s.bytes, s.length, sheet.bytes, sheet.length, out.bytes, out.length, values(HIBERNAXO_COPY_WRITE_VALUES));
     EXPECT(HIBERNAXO_OK, 0, 40, 1, 1);
     WRITTEN(out, P10);
     out = buffer(39);
-    CALL(hibernaxo_copy, s.bytes, s.length, sheet.bytes, sheet.length, out.bytes, out.length, values(HIBERNAXO_COPY_VALUES));
+    CALL(hibernaxo_copy_write, s.bytes, s.length, sheet.bytes, sheet.length, out.bytes, out.length, values(HIBERNAXO_COPY_WRITE_VALUES));
     EXPECT(HIBERNAXO_ROOM, 40);
     KEPT(out);
     out = buffer(0);
-    CALL(hibernaxo_copy, s.bytes, s.length, sheet.bytes, sheet.length, out.bytes, out.length, values(HIBERNAXO_COPY_VALUES));
+    CALL(hibernaxo_copy_write, s.bytes, s.length, sheet.bytes, sheet.length, out.bytes, out.length, values(HIBERNAXO_COPY_WRITE_VALUES));
     EXPECT(HIBERNAXO_ROOM, 40);
     out = buffer(56);
-    CALL(hibernaxo_copy, none.bytes, none.length, sheet.bytes, sheet.length, out.bytes, out.length, values(HIBERNAXO_COPY_VALUES)); /* P1 */
+    CALL(hibernaxo_copy_write, none.bytes, none.length, sheet.bytes, sheet.length, out.bytes, out.length, values(HIBERNAXO_COPY_WRITE_VALUES)); /* P1 */
     EXPECT(HIBERNAXO_OK, 0, 0, 0, 0);
-    CALL(hibernaxo_copy, s.bytes, s.length, none.bytes, none.length, out.bytes, out.length, values(HIBERNAXO_COPY_VALUES));
+    CALL(hibernaxo_copy_write, s.bytes, s.length, none.bytes, none.length, out.bytes, out.length, values(HIBERNAXO_COPY_WRITE_VALUES));
     EXPECT(HIBERNAXO_OK, 0, 0, 0, 0);
-    CALL(hibernaxo_copy, s.bytes, s.length, s.bytes, s.length, out.bytes, out.length, values(HIBERNAXO_COPY_VALUES));
+    CALL(hibernaxo_copy_write, s.bytes, s.length, s.bytes, s.length, out.bytes, out.length, values(HIBERNAXO_COPY_WRITE_VALUES));
     EXPECT(HIBERNAXO_ROW, 56);
     KEPT(out);
 }

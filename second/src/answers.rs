@@ -1,6 +1,7 @@
 //! The second program's answers in the form of the library's exports: the
 //! refusal number, and values that begin with the place.
 
+use crate::copy::Copied;
 use crate::refusal::Refusal;
 use crate::render::Draft;
 use crate::{burst, copy, parse, render, sheet};
@@ -119,11 +120,19 @@ pub fn sheet(bytes: &[u8]) -> Answer<258> {
     }
 }
 
-pub fn copy(recording: &[u8], sheet: &[u8], out: &mut [u8]) -> Answer<4> {
-    match copy::copy(recording, sheet, out) {
+fn copied(outcome: Result<Copied, Refusal>) -> Answer<4> {
+    match outcome {
         Ok(copied) => Answer::success(&[copied.bytes, copied.messages, copied.packages]),
         Err(refusal) => Answer::refused(refusal),
     }
+}
+
+pub fn copy_measure(recording: &[u8], sheet: &[u8]) -> Answer<4> {
+    copied(copy::measure(recording, sheet))
+}
+
+pub fn copy_write(recording: &[u8], sheet: &[u8], out: &mut [u8]) -> Answer<4> {
+    copied(copy::write(recording, sheet, out))
 }
 
 pub fn randomize(buffer: &mut [u8]) -> Answer<1> {

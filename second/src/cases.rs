@@ -9,19 +9,20 @@ use crate::judge::Judge;
 use crate::lent::room_for;
 use crate::orders::{bad_sheet, everything, pack_sheet, rows, targets, Target};
 use crate::refusal::{MOST_BYTES, ROOM};
-use crate::{copy, demand, render, round_trips, side_by_side};
+use crate::{copy, demand, measuring, render, round_trips, side_by_side};
 
 type Case = fn(&mut Judge, &mut Dice);
 
 /// The kinds of cases and how many of each there are in a hundred.
-const KINDS: [(u64, Case); 12] = [
+const KINDS: [(u64, Case); 13] = [
     (10, header_case),
     (9, package_case),
     (10, check_case),
     (12, write_case),
     (9, clean_case),
     (8, sheet_case),
-    (16, copy_case),
+    (12, copy_case),
+    (4, measuring_case),
     (2, randomize_case),
     (4, open_burst_case),
     (9, demand::withheld_case),
@@ -222,8 +223,8 @@ fn sheet_case(judge: &mut Judge, dice: &mut Dice) {
     side_by_side::sheet(judge, dice, &sheet);
 }
 
-fn copy_case(judge: &mut Judge, dice: &mut Dice) {
-    judge.kind("copy");
+/// A recording and a sheet for it, each good or bad.
+fn recording_and_sheet(dice: &mut Dice) -> (Vec<u8>, Vec<u8>) {
     let (recording, targets) = any_recording(dice);
     // In a long copy the sequence numbers grow.
     let sheet = if recording.len() > 10_000 && dice.chance(1, 3) {
@@ -231,9 +232,21 @@ fn copy_case(judge: &mut Judge, dice: &mut Dice) {
     } else {
         any_sheet(dice, &targets)
     };
-    let room = needed(copy::copy(&recording, &sheet, &mut []).map(|copied| copied.bytes));
-    let room = room_for(dice, room);
+    (recording, sheet)
+}
+
+fn copy_case(judge: &mut Judge, dice: &mut Dice) {
+    judge.kind("copy");
+    let (recording, sheet) = recording_and_sheet(dice);
+    let needed = copy::measure(&recording, &sheet).map_or(64, |copied| copied.bytes);
+    let room = room_for(dice, needed);
     side_by_side::copy(judge, dice, &recording, &sheet, room);
+}
+
+fn measuring_case(judge: &mut Judge, dice: &mut Dice) {
+    judge.kind("measured, then written");
+    let (recording, sheet) = recording_and_sheet(dice);
+    measuring::measured_then_written(judge, dice, &recording, &sheet);
 }
 
 fn randomize_case(judge: &mut Judge, dice: &mut Dice) {

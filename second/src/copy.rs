@@ -1,8 +1,8 @@
-//! The released list and the copy.
+//! The released list and the copy, which is measured and written.
 
 use crate::parse::*;
 use crate::refusal::*;
-use crate::render::{render, rendered_length};
+use crate::render::render;
 use crate::sheet::{granted, read_sheet, Row};
 use std::collections::HashMap;
 
@@ -19,6 +19,7 @@ pub struct Entry<'a> {
     pub packages: Vec<Package<'a>>,
 }
 
+/// What a copy has: as measured, what it needs, and as written, what it took.
 #[derive(Clone, Copy, Debug, PartialEq, Eq)]
 pub struct Copied {
     pub bytes: usize,
@@ -67,17 +68,39 @@ fn messages_of(entries: Vec<Entry>) -> Vec<Message> {
     messages
 }
 
-/// The release copy: ROW, LARGE, 1 to 10 for the first bad message, ROOM.
-pub fn copy(recording: &[u8], sheet: &[u8], buffer: &mut [u8]) -> Result<Copied, Refusal> {
-    let rows = read_sheet(sheet)?;
-    let placed = read_recording(recording)?;
-    let messages = messages_of(released_list(&placed, &rows));
-    let needed = messages.iter().map(rendered_length).sum();
-    ask(needed <= buffer.len(), ROOM, needed)?;
-    let mut at = 0;
-    for message in &messages {
-        at += render(message, &mut buffer[at..]);
+/// What the copy of a released list needs: a header for each entry, and its
+/// packages with their padding.
+fn measured(entries: &[Entry]) -> Copied {
+    let packages = || entries.iter().flat_map(|entry| &entry.packages);
+    Copied {
+        bytes: HEADER_BYTES * entries.len() + packages().map(Package::padded).sum::<usize>(),
+        messages: entries.len(),
+        packages: packages().count(),
     }
-    let packages = messages.iter().map(|message| message.packages.len()).sum();
-    Ok(Copied { bytes: at, messages: messages.len(), packages })
+}
+
+/// The released list of a recording under a sheet: ROW, LARGE, 1 to 10 for the
+/// first bad message.
+fn released<'a>(recording: &'a [u8], sheet: &[u8]) -> Result<Vec<Entry<'a>>, Refusal> {
+    let rows = read_sheet(sheet)?;
+    Ok(released_list(&read_recording(recording)?, &rows))
+}
+
+/// Measures the copy; it takes no buffer, so there is no ROOM.
+pub fn measure(recording: &[u8], sheet: &[u8]) -> Result<Copied, Refusal> {
+    Ok(measured(&released(recording, sheet)?))
+}
+
+/// Writes the copy: what measuring refuses, then ROOM.
+pub fn write(recording: &[u8], sheet: &[u8], buffer: &mut [u8]) -> Result<Copied, Refusal> {
+    let entries = released(recording, sheet)?;
+    let needed = measured(&entries).bytes;
+    ask(needed <= buffer.len(), ROOM, needed)?;
+    let mut written = Copied { bytes: 0, messages: 0, packages: 0 };
+    for message in messages_of(entries) {
+        written.bytes += render(&message, &mut buffer[written.bytes..]);
+        written.messages += 1;
+        written.packages += message.packages.len();
+    }
+    Ok(written)
 }

@@ -6,6 +6,7 @@ use crate::dice::Dice;
 use crate::generate::*;
 use crate::judge::{dump, Judge};
 use crate::lent::room_for;
+use crate::measuring;
 use crate::orders::{pack_sheet, row_around, rows, targets};
 use crate::parse::{check, package_time, read_recording};
 use crate::sheet::{granted, Row};
@@ -265,7 +266,7 @@ pub fn withheld_case(judge: &mut Judge, dice: &mut Dice) {
 }
 
 /// Two recordings that differ in one kind of withheld things, or in all, give
-/// equal answers and buffers.
+/// equal measurements, answers and buffers.
 pub fn withheld(judge: &mut Judge, dice: &mut Dice, kind: usize) {
     let (name, change) = WITHHELD[kind];
     judge.kind(&format!("demand 3, withheld: {name}"));
@@ -286,21 +287,26 @@ pub fn withheld(judge: &mut Judge, dice: &mut Dice, kind: usize) {
 
 fn compare_pair(judge: &mut Judge, dice: &mut Dice, one: &[u8], other: &[u8], rows: &[Row]) {
     let sheet = pack_sheet(rows);
+    let told = |what: &str| {
+        format!(
+            "  the {what} of two recordings with equal released lists differ\n  one:\n{}  \
+             other:\n{}  sheet:\n{}",
+            dump(one, 0),
+            dump(other, 0),
+            dump(&sheet, 0)
+        )
+    };
+    let measured = side_by_side::copy_measure(judge, dice, one, &sheet);
+    let other_measured = side_by_side::copy_measure(judge, dice, other, &sheet);
+    judge.claim(measured == other_measured, || told("measurements"));
     let longest = one.len().max(other.len());
     let needed = crate::text::release_copy(one, &sheet).len();
     for room in [longest, needed, room_for(dice, needed)] {
         let buffer = dice.bytes(room);
-        let first = side_by_side::copy_into(judge, dice, one, &sheet, &buffer);
-        let second = side_by_side::copy_into(judge, dice, other, &sheet, &buffer);
-        judge.claim(first == second, || {
-            format!(
-                "  the copies of two recordings with equal released lists differ\n  one:\n{}  \
-                 other:\n{}  sheet:\n{}",
-                dump(one, 0),
-                dump(other, 0),
-                dump(&sheet, 0)
-            )
-        });
+        let first = side_by_side::copy_write(judge, dice, one, &sheet, &buffer);
+        let second = side_by_side::copy_write(judge, dice, other, &sheet, &buffer);
+        judge.claim(first == second, || told("copies"));
+        measuring::agree(judge, measured, first.0, room);
     }
 }
 

@@ -35,7 +35,14 @@ pub mod raw {
             values: *mut u64,
         ) -> u32;
         pub fn hibernaxo_sheet(sheet: *const u8, len: usize, values: *mut u64) -> u32;
-        pub fn hibernaxo_copy(
+        pub fn hibernaxo_copy_measure(
+            recording: *const u8,
+            recording_len: usize,
+            sheet: *const u8,
+            sheet_len: usize,
+            values: *mut u64,
+        ) -> u32;
+        pub fn hibernaxo_copy_write(
             recording: *const u8,
             recording_len: usize,
             sheet: *const u8,
@@ -115,9 +122,21 @@ pub fn sheet(sheet: &mut [u8]) -> Given<258> {
     call(|values| unsafe { raw::hibernaxo_sheet(sheet.as_mut_ptr(), sheet.len(), values) })
 }
 
-pub fn copy(recording: &mut [u8], sheet: &mut [u8], out: &mut [u8]) -> Given<4> {
+pub fn copy_measure(recording: &mut [u8], sheet: &mut [u8]) -> Given<4> {
     call(|values| unsafe {
-        raw::hibernaxo_copy(
+        raw::hibernaxo_copy_measure(
+            recording.as_mut_ptr(),
+            recording.len(),
+            sheet.as_mut_ptr(),
+            sheet.len(),
+            values,
+        )
+    })
+}
+
+pub fn copy_write(recording: &mut [u8], sheet: &mut [u8], out: &mut [u8]) -> Given<4> {
+    call(|values| unsafe {
+        raw::hibernaxo_copy_write(
             recording.as_mut_ptr(),
             recording.len(),
             sheet.as_mut_ptr(),

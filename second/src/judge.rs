@@ -6,14 +6,15 @@ use crate::refusal::NAMES;
 use std::fmt::Write;
 
 /// The exports, and the refusal numbers that each of them can give.
-pub const EXPORTS: [(&str, &[u32]); 9] = [
+pub const EXPORTS: [(&str, &[u32]); 10] = [
     ("header", &[1, 2, 3, 4, 5, 6, 7, 12]),
     ("package", &[10, 12]),
     ("check", &[1, 2, 3, 4, 5, 6, 7, 8, 9, 10, 12]),
     ("write", &[6, 7, 10, 12, 13]),
     ("clean", &[1, 2, 3, 4, 5, 6, 7, 8, 9, 10, 12, 13]),
     ("sheet", &[11]),
-    ("copy", &[1, 2, 3, 4, 5, 6, 7, 8, 9, 10, 11, 12, 13]),
+    ("copy_measure", &[1, 2, 3, 4, 5, 6, 7, 8, 9, 10, 11, 12]),
+    ("copy_write", &[1, 2, 3, 4, 5, 6, 7, 8, 9, 10, 11, 12, 13]),
     ("randomize", &[12]),
     ("open_burst", &[12, 14, 15]),
 ];

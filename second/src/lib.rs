@@ -33,6 +33,8 @@ pub mod judge;
 pub mod lent;
 #[cfg(feature = "exports")]
 pub mod limits;
+#[cfg(feature = "exports")]
+pub mod measuring;
 pub mod programs;
 #[cfg(feature = "exports")]
 pub mod round_trips;

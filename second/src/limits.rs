@@ -8,6 +8,7 @@ use crate::dice::Dice;
 use crate::drafts::{draft_of, OwnDraft};
 use crate::generate::*;
 use crate::judge::Judge;
+use crate::measuring::measured_then_written;
 use crate::orders::*;
 use crate::paper::{m_with, m_with_options, message_m, row_r};
 use crate::round_trips::{trip, TRIPS};
@@ -17,7 +18,7 @@ use crate::side_by_side;
 type Part = fn(&mut Limits);
 
 /// The parts in their order.
-const PARTS: [(&str, Part); 13] = [
+const PARTS: [(&str, Part); 14] = [
     ("the paper's numbers", paper_numbers),
     ("sizes", sizes),
     ("faults", faults),
@@ -27,6 +28,7 @@ const PARTS: [(&str, Part); 13] = [
     ("sheets", sheets),
     ("grants", grants),
     ("the copy's order", copy_order),
+    ("measuring", measuring),
     ("sequence numbers", sequence_numbers),
     ("bursts", bursts),
     ("demand 3", demand_3),
@@ -89,6 +91,11 @@ impl Limits<'_> {
     fn copy(&mut self, recording: &[u8], sheet: &[u8], room: usize) {
         self.next("copy");
         side_by_side::copy(self.judge, &mut self.dice, recording, sheet, room);
+    }
+
+    fn measured_then_written(&mut self, recording: &[u8], sheet: &[u8]) {
+        self.next("measured, then written");
+        measured_then_written(self.judge, &mut self.dice, recording, sheet);
     }
 
     fn randomize(&mut self, bytes: &[u8]) {
@@ -441,6 +448,31 @@ fn copy_order(limits: &mut Limits) {
                 limits.copy(recording, sheet, room);
             }
         }
+    }
+}
+
+/// Copies of every sort: none, small ones, the longest ones, and refused ones.
+fn measuring(limits: &mut Limits) {
+    let all = pack_sheet(&[everything()]);
+    for sheet in [&row_r(), &all, &Vec::new(), &vec![0; 33]] {
+        for recording in [Vec::new(), message_m(), [message_m(), message_m()].concat()] {
+            limits.measured_then_written(&recording, sheet);
+        }
+    }
+    let world = World::new(&mut limits.dice);
+    for style in [Style::Mixed, Style::OnePackageEach, Style::ManyIds, Style::FewLarge] {
+        for size in [24, 36, 65_532, 65_536, 65_540] {
+            let messages = messages_of_size(&mut limits.dice, &world, size, style);
+            limits.measured_then_written(&lay_all(&messages).0, &all);
+        }
+    }
+    for fault in 1..=10 {
+        let mut messages = Vec::new();
+        for _ in 0..3 {
+            messages.push(message(&mut limits.dice, &world, 2));
+        }
+        let bytes = with_faults(&mut limits.dice, &mut messages, &[(1, fault)]);
+        limits.measured_then_written(&bytes, &all);
     }
 }
 

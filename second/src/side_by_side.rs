@@ -8,6 +8,7 @@ use crate::drafts::OwnDraft;
 use crate::exports;
 use crate::judge::Judge;
 use crate::lent::Lent;
+use crate::measuring;
 use crate::render::Draft;
 
 // The exports' places in the judge's table.
@@ -17,9 +18,10 @@ const CHECK: usize = 2;
 const WRITE: usize = 3;
 const CLEAN: usize = 4;
 const SHEET: usize = 5;
-const COPY: usize = 6;
-const RANDOMIZE: usize = 7;
-const OPEN_BURST: usize = 8;
+const COPY_MEASURE: usize = 6;
+const COPY_WRITE: usize = 7;
+const RANDOMIZE: usize = 8;
+const OPEN_BURST: usize = 9;
 
 pub fn header(judge: &mut Judge, dice: &mut Dice, bytes: &[u8]) -> Answer<10> {
     let mut input = Lent::new(dice, bytes);
@@ -92,19 +94,23 @@ pub fn sheet(judge: &mut Judge, dice: &mut Dice, sheet: &[u8]) -> Answer<258> {
     given.answer
 }
 
-pub fn copy(
+pub fn copy_measure(
     judge: &mut Judge,
     dice: &mut Dice,
     recording: &[u8],
     sheet: &[u8],
-    room: usize,
-) -> (Answer<4>, Vec<u8>) {
-    let buffer = dice.bytes(room);
-    copy_into(judge, dice, recording, sheet, &buffer)
+) -> Answer<4> {
+    let mut input = Lent::new(dice, recording);
+    let mut order = Lent::new(dice, sheet);
+    let given = exports::copy_measure(input.lend(), order.lend());
+    let expected = answers::copy_measure(recording, sheet);
+    let buffers = [("recording", &input), ("sheet", &order)];
+    judge.settle(COPY_MEASURE, &[], expected, given, &buffers);
+    given.answer
 }
 
-/// The copy into a buffer with these bytes.
-pub fn copy_into(
+/// The copy, written into a buffer with these bytes.
+pub fn copy_write(
     judge: &mut Judge,
     dice: &mut Dice,
     recording: &[u8],
@@ -114,11 +120,27 @@ pub fn copy_into(
     let mut input = Lent::new(dice, recording);
     let mut order = Lent::new(dice, sheet);
     let mut out = Lent::new(dice, buffer);
-    let given = exports::copy(input.lend(), order.lend(), out.lend());
-    let expected = answers::copy(recording, sheet, out.expected());
+    let given = exports::copy_write(input.lend(), order.lend(), out.lend());
+    let expected = answers::copy_write(recording, sheet, out.expected());
     let buffers = [("recording", &input), ("sheet", &order), ("out", &out)];
-    judge.settle(COPY, &[], expected, given, &buffers);
+    judge.settle(COPY_WRITE, &[], expected, given, &buffers);
     (given.answer, out.content().to_vec())
+}
+
+/// The copy, measured and then written into a buffer of so many bytes. What
+/// comes back is what writing gave.
+pub fn copy(
+    judge: &mut Judge,
+    dice: &mut Dice,
+    recording: &[u8],
+    sheet: &[u8],
+    room: usize,
+) -> (Answer<4>, Vec<u8>) {
+    let buffer = dice.bytes(room);
+    let measured = copy_measure(judge, dice, recording, sheet);
+    let written = copy_write(judge, dice, recording, sheet, &buffer);
+    measuring::agree(judge, measured, written.0, room);
+    written
 }
 
 pub fn randomize(judge: &mut Judge, dice: &mut Dice, bytes: &[u8]) -> (Answer<1>, Vec<u8>) {

@@ -1,7 +1,10 @@
-//! The paper's numbers: P1 to P12, and what is to be run and compared.
+//! The paper's numbers: P1 to P12, and what is to be run and compared. The
+//! requests that change the paper's rules have a module of their own.
+
+mod changed_rules;
 
 use crate::burst::{open_burst, randomize, MARKER_BYTES, SEQUENCE};
-use crate::copy::{copy, Copied};
+use crate::copy::{self, Copied};
 use crate::paper::{self, from_hex, message_m, row_r};
 use crate::parse::*;
 use crate::refusal::*;
@@ -27,7 +30,7 @@ fn m_with_options(hex: &str) -> Vec<u8> {
 fn p1_an_empty_recording_gives_an_empty_copy() {
     let mut buffer = [0x5A; 4];
     let copied = Copied { bytes: 0, messages: 0, packages: 0 };
-    assert_eq!(copy(&[], &row_r(), &mut buffer), Ok(copied));
+    assert_eq!(copy::write(&[], &row_r(), &mut buffer), Ok(copied));
     assert_eq!(buffer, [0x5A; 4]);
 }
 
@@ -94,7 +97,7 @@ fn p9_r_is_read_as_said() {
 fn p10_m_is_copied_under_r() {
     let mut buffer = vec![0x5A; 45];
     let copied = Copied { bytes: 40, messages: 1, packages: 1 };
-    assert_eq!(copy(&message_m(), &row_r(), &mut buffer), Ok(copied));
+    assert_eq!(copy::write(&message_m(), &row_r(), &mut buffer), Ok(copied));
     let expected = from_hex(
         "100000C0 00000007 00000000 00000028 00000064 00000000 \
          00000001 000D0000 00000000 AA000000",
@@ -102,7 +105,7 @@ fn p10_m_is_copied_under_r() {
     assert_eq!(buffer[..40], expected);
     assert_eq!(buffer[40..], [0x5A; 5]);
     let mut short = vec![0x5A; 39];
-    assert_eq!(copy(&message_m(), &row_r(), &mut short), refused(ROOM, 40));
+    assert_eq!(copy::write(&message_m(), &row_r(), &mut short), refused(ROOM, 40));
     assert_eq!(short, vec![0x5A; 39]);
 }
 
@@ -164,9 +167,9 @@ fn a_row_to_10_ns_grants_package_2_and_one_to_9_ns_does_not() {
     let to_9 = from_hex(&format!("{row} 00000190 00000090"));
     let mut buffer = [0; 56];
     let one = Copied { bytes: 40, messages: 1, packages: 1 };
-    assert_eq!(copy(&message_m(), &to_10, &mut buffer), Ok(one));
+    assert_eq!(copy::write(&message_m(), &to_10, &mut buffer), Ok(one));
     let none = Copied { bytes: 0, messages: 0, packages: 0 };
-    assert_eq!(copy(&message_m(), &to_9, &mut buffer), Ok(none));
+    assert_eq!(copy::write(&message_m(), &to_9, &mut buffer), Ok(none));
 }
 
 #[test]

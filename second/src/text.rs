@@ -1,8 +1,8 @@
 //! What the two programs print.
 
-use crate::copy::copy;
+use crate::copy;
 use crate::parse::{package_time, read_recording};
-use crate::refusal::{Refusal, MOST_BYTES};
+use crate::refusal::Refusal;
 use std::fmt::Write;
 
 fn refused_line(refusal: Refusal) -> String {
@@ -33,15 +33,17 @@ pub fn listing(recording: &[u8]) -> String {
     text
 }
 
-/// What the command program writes: the copy, or the refused line.
+/// What the command program writes: the copy, which it measures first, or the
+/// refused line.
 pub fn release_copy(recording: &[u8], sheet: &[u8]) -> Vec<u8> {
-    // A copy is never longer than its recording.
-    let mut buffer = vec![0; MOST_BYTES];
-    match copy(recording, sheet, &mut buffer) {
-        Ok(copied) => {
-            buffer.truncate(copied.bytes);
-            buffer
-        }
+    match measured_and_written(recording, sheet) {
+        Ok(copy) => copy,
         Err(refusal) => refused_line(refusal).into_bytes(),
     }
+}
+
+fn measured_and_written(recording: &[u8], sheet: &[u8]) -> Result<Vec<u8>, Refusal> {
+    let mut buffer = vec![0; copy::measure(recording, sheet)?.bytes];
+    copy::write(recording, sheet, &mut buffer)?;
+    Ok(buffer)
 }

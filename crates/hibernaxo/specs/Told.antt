@@ -38,12 +38,16 @@ checkTold (good (messages, packages)) = (0, 0 ∷ messages ∷ packages ∷ [])
 abbrev pub draft : ℕ → ℕ → ℕ → ℕ → ℕ → List ℕ → List ℕ → Draft
 draft f i q s n o p = record { flags = f; id = i; sequence = q; seconds = s; nanos = n; options = o; packages = p }
 
+-- an answer's number and values, and the buffer as it is left
+abbrev pub withBuffer : {A : Type 0} → (A → ℕ × List ℕ) → A × List ℕ → ℕ × List ℕ × List ℕ
+withBuffer values (a, buffer) = (values a .0, values a .1, buffer)
+
 -- a message written or cleaned: bytes
 abbrev pub writtenValues : Written → ℕ × List ℕ
 writtenValues w = (w .number, w .place ∷ w .bytes ∷ [])
 
 abbrev pub writtenTold : Written × List ℕ → ℕ × List ℕ × List ℕ
-writtenTold (w, buffer) = (writtenValues w .0, writtenValues w .1, buffer)
+writtenTold = withBuffer writtenValues
 
 -- a sheet: how many rows it has, and eight values for each row
 abbrev pub rowValues : Row → List ℕ
@@ -53,9 +57,12 @@ abbrev pub sheetTold : Outcome (List Row × ℕ) → ℕ × List ℕ
 sheetTold (bad n p) = (n, refusedAt p (1 + 8 * mostRows))
 sheetTold (good (rows, count)) = (0, 0 ∷ count ∷ join (map rowValues rows))
 
--- a copy: bytes, messages and packages
+-- a copy measured, and written: bytes, messages and packages
+abbrev pub answerValues : Answer → ℕ × List ℕ
+answerValues a = (a .number, a .place ∷ a .bytes ∷ a .messages ∷ a .packages ∷ [])
+
 abbrev pub copyTold : Answer × List ℕ → ℕ × List ℕ × List ℕ
-copyTold (a, buffer) = (a .number, a .place ∷ a .bytes ∷ a .messages ∷ a .packages ∷ [], buffer)
+copyTold = withBuffer answerValues
 
 -- a buffer randomized
 abbrev pub randomizedTold : Randomized × List ℕ → ℕ × List ℕ × List ℕ

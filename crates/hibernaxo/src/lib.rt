@@ -10,7 +10,7 @@ use message::HeaderRead;
 use message::Mdid;
 use message::PackageRead;
 use refusal::Refusal;
-use release::Copied;
+use release::Answer;
 use sheet::Row;
 use sheet::SheetAnswer;
 ghost use mathlib.Core.Path.{_≡_};
@@ -23,12 +23,13 @@ ghost use Rattle.rules.specs.Walk.{packageAt};
 ghost use Rattle.rules.specs.Writer.{writer};
 ghost use Rattle.rules.specs.Clean.{cleaner};
 ghost use Rattle.rules.specs.Sheet.{sheetRows};
-ghost use Rattle.rules.specs.Copy.{copy};
+ghost use Rattle.rules.specs.Copy.{measurement, copy};
 ghost use Rattle.rules.specs.Burst.{randomizer, opener};
 ghost use Rattle.refusal.specs.Numbers.{numberOf};
 ghost use Rattle.sheet.specs.Rows.{rowIn};
 ghost use Rattle.compose.specs.Told.{numbers};
-ghost use Rattle.hibernaxo.specs.Told.{headerTold, stepTold, checkTold, draft, writtenValues, writtenTold, rowValues, sheetTold, copyTold, randomizedTold, openedTold};
+ghost use Rattle.release.specs.Told as release;
+ghost use Rattle.hibernaxo.specs.Told.{headerTold, stepTold, checkTold, draft, writtenValues, writtenTold, rowValues, sheetTold, answerValues, copyTold, randomizedTold, openedTold};
 
 // The number of a refusal.
 fn number_in(x: Refusal) -> u32
@@ -222,9 +223,38 @@ pub extern "C" fn hibernaxo_sheet(sheet: &[u8], values: &mut [u64; 258]) -> u32
     }
 }
 
+// What measuring and writing answered.
+fn put_answer(a: Answer, values: &mut [u64; 4]) -> u32
+    ensures { λ r. ⌜ (r, now (values .exit)) ≡ answerValues (release.numbers a) ⌝ }
+{
+    match a {
+        Answer::Totals(t) => {
+            *values = [0, t.bytes as u64, t.messages as u64, t.packages as u64];
+            0
+        }
+        Answer::Refused(x) => {
+            *values = [x.place as u64, 0, 0, 0];
+            number_in(x)
+        }
+    }
+}
+
+// What the copy of a recording under a sheet takes: bytes, messages and packages.
+#[no_mangle]
+pub extern "C" fn hibernaxo_copy_measure(
+    recording: &[u8],
+    sheet: &[u8],
+    values: &mut [u64; 4],
+) -> u32
+    ensures { λ r. ⌜ (r, now (values .exit)) ≡ answerValues (measurement (now (recording .entry)) (now (sheet .entry))) ⌝ }
+{
+    let a = release::measure(recording, sheet);
+    put_answer(a, values)
+}
+
 // The copy of a recording under a sheet: bytes, messages and packages.
 #[no_mangle]
-pub extern "C" fn hibernaxo_copy(
+pub extern "C" fn hibernaxo_copy_write(
     recording: &[u8],
     sheet: &[u8],
     out: &mut [u8],
@@ -232,16 +262,8 @@ pub extern "C" fn hibernaxo_copy(
 ) -> u32
     ensures { λ r. ⌜ (r, now (values .exit), now (out .exit)) ≡ copyTold (copy (now (recording .entry)) (now (sheet .entry)) (now (out .entry))) ⌝ }
 {
-    match release::copy(recording, sheet, out) {
-        Copied::Written(t) => {
-            *values = [0, t.bytes as u64, t.messages as u64, t.packages as u64];
-            0
-        }
-        Copied::Refused(x) => {
-            *values = [x.place as u64, 0, 0, 0];
-            number_in(x)
-        }
-    }
+    let a = release::write(recording, sheet, out);
+    put_answer(a, values)
 }
 
 // A buffer randomized.

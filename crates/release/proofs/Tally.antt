@@ -23,7 +23,7 @@ use Rattle.message.specs.Answers.{toldMessage}
 use Rattle.rules.specs.Reading.{messageAt}
 use Rattle.release.specs.declared.Size.{Size}
 use Rattle.release.specs.declared.Totals.{Totals}
-use Rattle.release.specs.declared.Measured.the-variants as Measure
+use Rattle.release.specs.declared.Answer.the-variants as answer
 use Rattle.release.specs.Parts.{messageBy, withEntry, Sized, entered}
 use Rattle.release.specs.Told.{totals, measured, toldMeasure}
 use Rattle.release.proofs.Entries.{Met, met, no-message, it, order, inside, behind, run-length, cut-is, ps, grown, totals-grown, one-more}
@@ -50,14 +50,14 @@ module _ (rs : List rows.Row) (recordingBytes : List ℕ) (short : length record
   tally-start = record { done = []; doing = doing-start message recordingBytes; inside = omega arith; bounds = record { small = omega arith; few = omega arith; fewer = omega arith }; so-far = refl }
 
   module _ (t : Totals) (k : ℕ) (inv : Tallying rs recordingBytes t k) where
-    pub tally-ended : length recordingBytes ≤ k → toldMeasure (Measure.Fits t) ≡ measured rs recordingBytes
+    pub tally-ended : length recordingBytes ≤ k → toldMeasure (answer.Totals t) ≡ measured rs recordingBytes
     unfolding measured recording
     tally-ended l =
         let e : recording recordingBytes ≡ good (inv .done) = pass _ _ _ _ (le-ltb 65536 (length recordingBytes) short) (doing-end message recordingBytes (inv .done) k (inv .doing) l) in
         sym (step _ _ e (rw (← inv .so-far)))
 
     module _ (l : k < length recordingBytes) where
-      pub tally-refused : (f : Refusal) → toldMessage (M.Refused f) ≡ messageAt recordingBytes k → toldMeasure (Measure.Refused f) ≡ measured rs recordingBytes
+      pub tally-refused : (f : Refusal) → toldMessage (M.Refused f) ≡ messageAt recordingBytes k → toldMeasure (answer.Refused f) ≡ measured rs recordingBytes
       unfolding measured recording
       tally-refused f e =
           let b : recording recordingBytes ≡ bad (numberOf (f .why)) (f .place) = pass _ _ _ _ (le-ltb 65536 (length recordingBytes) short)
@@ -82,6 +82,6 @@ module _ (rs : List rows.Row) (recordingBytes : List ℕ) (short : length record
             }
 
 -- a recording that is too long
-pub large : (rs : List rows.Row) (recordingBytes : List ℕ) → 65536 < length recordingBytes → toldMeasure (Measure.Refused (record { why = Large; place = 65536 })) ≡ measured rs recordingBytes
+pub large : (rs : List rows.Row) (recordingBytes : List ℕ) → 65536 < length recordingBytes → toldMeasure (answer.Refused (record { why = Large; place = 65536 })) ≡ measured rs recordingBytes
 unfolding measured recording
 large rs recordingBytes l = sym (stop _ _ (halt _ _ _ _ (lt-ltb 65536 (length recordingBytes) l)))

@@ -1,4 +1,5 @@
-// The copy: what a recording releases under an order sheet. One pass measures and finds every refusal; the second writes.
+// The copy: what a recording releases under an order sheet, measured first and then written. Measuring goes over the messages once and finds
+// every refusal; writing measures for itself, and goes over them once more.
 ghost use mathlib.Core.Path.{_≡_};
 ghost use mathlib.Core.List.{[]};
 ghost use Prim.Native.Nat.{_+_, _-_, _≤_};
@@ -6,10 +7,10 @@ ghost use lib.ListN.{length, take};
 ghost use lib.Seq.{sets};
 ghost use Rattle.rules.specs.Bytes.{put32};
 ghost use Rattle.rules.specs.Packages.{packageTime};
-ghost use Rattle.rules.specs.Copy.{count, copy};
+ghost use Rattle.rules.specs.Copy.{count, measurement, copy};
 ghost use Rattle.sheet.specs.Rows.{someGrants};
 ghost use Rattle.release.specs.Parts.{sheetOf, messageBy, Sized, withPackage, withEntry, Placed, pieceAs, Stored, StoredRun, headBytes, Place, heldWith, Ready, Delivered};
-ghost use Rattle.release.specs.Told.{toldMeasure, measured, Wrote, told};
+ghost use Rattle.release.specs.Told.{toldMeasure, measured, Wrote, numbers, told, settled};
 use message::Header;
 use message::MessageRead;
 use message::Package;
@@ -99,17 +100,18 @@ fn with_entry(t: Totals, s: Size) -> Totals
     }
 }
 
-enum Measured {
-    Fits(Totals),
+// What measuring and writing answer.
+pub enum Answer {
+    Totals(Totals),
     Refused(Refusal),
 }
 
-// What the copy of a recording takes, or why the recording is refused.
-fn measure(recording: &[u8], rows: [Row; 32], n: usize) -> Measured
+// What the copy of a recording takes under these rows, or why the recording is refused.
+fn totals_of(recording: &[u8], rows: [Row; 32], n: usize) -> Answer
     ensures { λ r. ⌜ toldMeasure r ≡ measured (sheetOf rows n) (now (recording .entry)) ⌝ }
 {
     if 65536 < recording.len() {
-        return Measured::Refused(Refusal {
+        return Answer::Refused(Refusal {
             why: Why::Large,
             place: 65536,
         });
@@ -132,11 +134,11 @@ fn measure(recording: &[u8], rows: [Row; 32], n: usize) -> Measured
                 at = next;
             }
             MessageRead::Refused(f) => {
-                return Measured::Refused(f);
+                return Answer::Refused(f);
             }
         }
     }
-    Measured::Fits(totals)
+    Answer::Totals(totals)
 }
 
 // Stores two words, one behind the other.
@@ -279,7 +281,7 @@ fn deliver(out: &mut [u8], h: Header, bytes: usize, seen: &mut [u32], done: Reac
 }
 
 // Writes the copy of a recording that passes: of a message its packages first, behind the place of its header.
-fn write(recording: &[u8], rows: [Row; 32], n: usize, out: &mut [u8])
+fn write_messages(recording: &[u8], rows: [Row; 32], n: usize, out: &mut [u8])
     requires { ⌜ length (now recording) ≤ 65536 ⌝ }
     ensures { λ _. ⌜ Wrote (sheetOf rows n) (now (recording .entry)) (now (out .entry)) (now (out .exit)) ⌝ }
 {
@@ -301,36 +303,50 @@ fn write(recording: &[u8], rows: [Row; 32], n: usize, out: &mut [u8])
     }
 }
 
-pub enum Copied {
-    Written(Totals),
-    Refused(Refusal),
-}
-
-// The copy of a recording under a sheet, into a buffer.
-pub fn copy(recording: &[u8], sheet: &[u8], out: &mut [u8]) -> Copied
-    ensures { λ r. ⌜ told r (now (out .exit)) ≡ copy (now (recording .entry)) (now (sheet .entry)) (now (out .entry)) ⌝ }
+// Measuring, or writing where it is not `measured` alone: the refusals stand here, once for both, and ROOM is the last. One function for both,
+// since the passes over the messages are fast only where they are called from one place, whose rows they then need not copy.
+fn copied(recording: &[u8], sheet: &[u8], out: &mut [u8], measured: bool) -> Answer
+    ensures { λ r. ⌜ told r (now (out .exit)) ≡ settled measured (now (recording .entry)) (now (sheet .entry)) (now (out .entry)) ⌝ }
 {
     let read = read_sheet(sheet);
     let answer = read.answer;
     match answer {
-        SheetAnswer::Refused(f) => Copied::Refused(f),
+        SheetAnswer::Refused(f) => Answer::Refused(f),
         SheetAnswer::Good => {
             let rows = read.rows;
             let n = read.count;
-            let size = measure(recording, rows, n);
+            let size = totals_of(recording, rows, n);
             match size {
-                Measured::Refused(f) => Copied::Refused(f),
-                Measured::Fits(totals) => {
+                Answer::Refused(f) => Answer::Refused(f),
+                Answer::Totals(totals) => {
+                    if measured {
+                        return Answer::Totals(totals);
+                    }
                     if out.len() < totals.bytes {
-                        return Copied::Refused(Refusal {
+                        return Answer::Refused(Refusal {
                             why: Why::Room,
                             place: totals.bytes,
                         });
                     }
-                    write(recording, rows, n, out);
-                    Copied::Written(totals)
+                    write_messages(recording, rows, n, out);
+                    Answer::Totals(totals)
                 }
             }
         }
     }
+}
+
+// What the copy of a recording under a sheet takes: nothing is written.
+pub fn measure(recording: &[u8], sheet: &[u8]) -> Answer
+    ensures { λ r. ⌜ numbers r ≡ measurement (now (recording .entry)) (now (sheet .entry)) ⌝ }
+{
+    let mut nothing = [0u8; 1];
+    copied(recording, sheet, &mut nothing, true)
+}
+
+// The copy of a recording under a sheet, into a buffer. No measurement is trusted: it is made anew.
+pub fn write(recording: &[u8], sheet: &[u8], out: &mut [u8]) -> Answer
+    ensures { λ r. ⌜ told r (now (out .exit)) ≡ copy (now (recording .entry)) (now (sheet .entry)) (now (out .entry)) ⌝ }
+{
+    copied(recording, sheet, out, false)
 }

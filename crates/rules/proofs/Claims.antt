@@ -13,9 +13,9 @@ use Rattle.rules.specs.Buffer.{fitted}
 use Rattle.rules.specs.Writer.{written, writer}
 use Rattle.rules.specs.Clean.{cleanForm, cleaner}
 use Rattle.rules.specs.Sheet.{Row}
-use Rattle.rules.specs.Copy.{Entry, packagesIn, releasedOf, roomFor, answered, copy}
+use Rattle.rules.specs.Copy.{Entry, packagesIn, releasedOf, reported, measurement, roomFor, answered, copy}
 use Rattle.rules.specs.Burst.{randomized, opening, randomizer, opener}
-use Rattle.rules.specs.Claims.{BuffersKept, PremisesMet, CountsChecked, WrittenRead, AcceptedValid, ReadValid, ReadWritten, PartsWritten, WriterWrites, CleanerWrites, RoomRefused, SpotOfRecord, SpotExactly, CleanAlone, CleanTwice, CleanExactly, PackageExactly, PackagePlace, CutExactly, WalkShowsAll, WalkStays, GrantedExactly, Recurrence, BitPeriod, TableEntry, RandomizedTwice, RandomizedByte, BurstExactly, SameCopies, DifferentCopies, CountsReleased, SequenceCounted, ReleasedExactly, CopyRead, CopyNotLonger, CopyPlain, OneOutcome, Claims, partsOf}
+use Rattle.rules.specs.Claims.{BuffersKept, PremisesMet, CountsChecked, WrittenRead, AcceptedValid, ReadValid, ReadWritten, PartsWritten, WriterWrites, CleanerWrites, RoomRefused, SpotOfRecord, SpotExactly, CleanAlone, CleanTwice, CleanExactly, PackageExactly, PackagePlace, CutExactly, WalkShowsAll, WalkStays, GrantedExactly, Recurrence, BitPeriod, TableEntry, RandomizedTwice, RandomizedByte, BurstExactly, SameCopies, SameMeasurements, DifferentCopies, CountsReleased, MeasuredReleased, MeasuredFirst, SequenceCounted, ReleasedExactly, CopyRead, CopyNotLonger, CopyPlain, OneOutcome, Claims, partsOf}
 use Rattle.rules.proofs.Outcomes.{pass, step, stepped, came-after, good-inj}
 use Rattle.rules.proofs.Kept.{careful-stored, careful-answered, kept-randomized, kept-opened, writes, roomless}
 use Rattle.rules.proofs.Cut as Cut
@@ -34,6 +34,8 @@ use Rattle.rules.specs.Edges.{Edges}
 use Rattle.rules.proofs.Edges.{edges}
 use Rattle.rules.proofs.Growing.{copyMessages-snoc, released-append, granted-append, granted-one, granted-none, released-entry, released-none}
 use Rattle.rules.proofs.Interference.{copy-is, copy-roomless, delivered-is, same-list, copy-read, copy-short, copy-plain}
+use Rattle.rules.proofs.Roomless.{never-released}
+use Rattle.rules.proofs.Measured.{measured-roomless, measured-enough, measured-short, measured-refused, measured-alike}
 use Rattle.rules.proofs.Spots.{of-record, spot-read, spot-refused}
 use native.Mathlib.Nat.{zero-add, add-zero}
 
@@ -175,6 +177,10 @@ pub same-copies : SameCopies
 unfolding copy
 same-copies recording recording′ sheet sheet′ buffer e = ap (λ (o : _). answered buffer (o >>= roomFor buffer)) e
 
+pub same-measurements : SameMeasurements
+unfolding measurement
+same-measurements recording recording′ sheet sheet′ e = ap reported e
+
 pub different-copies : DifferentCopies
 different-copies recording recording′ sheet sheet′ buffer buffer′ b b′ es es′ r r′ l l′ differ e =
     differ (same-list recording recording′ sheet sheet′ buffer buffer′ b b′ es es′ r r′ l l′ e)
@@ -193,6 +199,16 @@ messages-joined (m ∷ ms) = omega (arith, messages-joined ms, length-append (m 
 pub counts-released : CountsReleased
 counts-released recording sheet buffer es r l =
     (rw (← entries-joined es) (ap (λ (a : _). a .0) (copy-is recording sheet es r buffer l)), delivered-is recording sheet es r buffer l)
+
+pub measured-released : MeasuredReleased
+unfolding measurement reported
+measured-released recording sheet es r = rw (← entries-joined es) (ap reported r)
+
+pub measured-first : (recording sheet : List ℕ) → MeasuredFirst recording sheet
+unfolding measurement copy answered
+measured-first recording sheet =
+    let o = releasedOf recording sheet in
+    record { roomless = measured-roomless o (never-released recording sheet); enough = measured-enough o; short = measured-short o; refused = measured-refused o; alike = measured-alike o }
 
 pub counts-checked : CountsChecked
 unfolding checkedRecording
@@ -234,9 +250,10 @@ all-claims = record {
   reading = (spot-of-record, spot-exactly, counts-checked, package-exactly, cut-exactly, package-place, walk-shows-all, walk-stays);
   writing = (written-read, read-written, parts-give-clean, writer-writes);
   cleaning = (cleaner-writes, clean-alone, clean-twice, clean-exactly);
+  measuring = (measured-released, measured-first);
   copying = (granted-by-ranges, released-exactly, sequence-counted, counts-released, copy-is-read, copy-not-longer, copy-is-plain);
   bursts = (recurrence, bit-period, table-entry, randomized-twice, randomized-byte, burst-is);
-  silence = (same-copies, different-copies);
+  silence = (same-copies, same-measurements, different-copies);
   outcomes = one-outcome;
   numbers = (table-holds, edges-hold);
 }

@@ -19,7 +19,7 @@ use Rattle.rules.specs.Reading.{header, optionStart, messageSpot, messag
 use Rattle.rules.specs.Walk.{packageSpot, packageAt, dataAt, startAt, nextAt}
 use Rattle.rules.specs.Clean.{cleanPiece, cleanBytes, cleanForm, cleaner}
 use Rattle.rules.specs.Sheet.{Row, bigEndian, rowOf, rowFits, row, sheet, sheetRows, shownRows, grants}
-use Rattle.rules.specs.Copy.{granted, grantedPackages, withEntryOf, released, count, copyMessage, copyMessages, copyBytes, packagesIn, releasedOf, roomFor, answered, copy}
+use Rattle.rules.specs.Copy.{granted, grantedPackages, withEntryOf, released, count, copyMessage, copyMessages, copyBytes, packagesIn, releasedOf, roomFor, answered, reported, filled, copy}
 use Rattle.rules.specs.Burst.{opening, randomizedAnswer, randomizer}
 use Rattle.rules.specs.Table.{R}
 use Rattle.rules.specs.Edges.{Edges, told, readings}
@@ -98,7 +98,7 @@ module _ (s : List ℕ) where
 -- ---- all of them
 
 pub edges : Edges
-unfolding refuse _>>_ _>>=_ _∷>_ half word items lengthAllowed optionSize optionFits optionRunFrom packageFits piece packageOf pieceOf head checksOneToSix optionRunLength checksEightAndNine checksOneToNine checksOneToTen recordOf message recording header optionStart messageSpot messageAt packageSpot packageAt dataAt startAt nextAt write drafted accepted written cleanPiece cleanBytes cleanForm cleaner fitted stored bigEndian rowOf rowFits row sheet sheetRows shownRows grants granted grantedPackages withEntryOf released count copyMessage copyMessages copyBytes packagesIn releasedOf roomFor answered copy opening randomizedAnswer randomizer
+unfolding refuse _>>_ _>>=_ _∷>_ half word items lengthAllowed optionSize optionFits optionRunFrom packageFits piece packageOf pieceOf head checksOneToSix optionRunLength checksEightAndNine checksOneToNine checksOneToTen recordOf message recording header optionStart messageSpot messageAt packageSpot packageAt dataAt startAt nextAt write drafted accepted written cleanPiece cleanBytes cleanForm cleaner fitted stored bigEndian rowOf rowFits row sheet sheetRows shownRows grants granted grantedPackages withEntryOf released count copyMessage copyMessages copyBytes packagesIn releasedOf roomFor answered reported filled copy opening randomizedAnswer randomizer
 edges = record {
   headerFields = refl;
   lengths = refl;

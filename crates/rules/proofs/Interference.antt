@@ -3,7 +3,7 @@ use Prim.Native.Nat.{ℕ, _+_, _/_, _%_, _≤_, _<_}
 use mathlib.Core.Path.{_≡_, refl, ap, sym, subst, _∙_}
 use mathlib.Core.List.{List, [], _∷_, map}
 use native.Mathlib.Omega.{arith}
-use borrow.Author.Tests.{le-ltb, lt-ltb, ltb-false}
+use borrow.Author.Tests.{ltb-false}
 use lib.ListN.{length, length-append}
 use lib.Seq.{sets}
 use Rattle.rules.specs.Outcome.{good, ROOM}
@@ -12,12 +12,12 @@ use Rattle.rules.specs.Items.{items, All, all-nil, all-cons}
 use Rattle.rules.specs.Message.{Message, message, recording}
 use Rattle.rules.specs.Packages.{Package}
 use Rattle.rules.specs.Sheet.{Row}
-use Rattle.rules.specs.Buffer.{fitted}
 use Rattle.rules.specs.Writer.{write}
 use Rattle.rules.specs.Valid.{Valid}
-use Rattle.rules.specs.Copy.{Entry, listedBits, grantedPackages, withEntryOf, released, count, copyMessage, copyMessages, copyBytes, packagesIn, releasedOf, roomFor, answered, copy, delivered}
+use Rattle.rules.specs.Copy.{Entry, listedBits, grantedPackages, withEntryOf, released, count, copyMessage, copyMessages, copyBytes, packagesIn, releasedOf, reported, filled, answered, copy, delivered}
 use Rattle.rules.specs.Claims.{Plain}
-use Rattle.rules.proofs.Outcomes.{pass, halt, step, stop, passed, stepped, good-inj}
+use Rattle.rules.proofs.Outcomes.{step, passed, stepped, good-inj}
+use Rattle.rules.proofs.Measured.{room-for, no-room-for}
 use Rattle.rules.proofs.Kept.{take-sets}
 use Rattle.rules.proofs.RoundTrip.{all-written-read}
 use Rattle.rules.proofs.Again.{length-write}
@@ -37,14 +37,14 @@ module _ (recordingBytes sheetBytes : List ℕ) (es : List Entry) (list : releas
   -- with room, the answer is the released list's, and its copy is stored
   pub copy-is : (buffer : List ℕ) → length (copyBytes es) ≤ length buffer
       → copy recordingBytes sheetBytes buffer ≡ (record { number = 0; place = 0; bytes = length (copyBytes es); messages = length es; packages = packagesIn es }, sets buffer 0 (copyBytes es))
-  unfolding copy answered roomFor fitted
-  copy-is buffer l = ap (answered buffer) (step _ _ list (step _ _ (pass _ _ _ _ (le-ltb (length buffer) (length (copyBytes es)) l) refl) refl))
+  unfolding copy answered reported filled
+  copy-is buffer l = ap (answered buffer) (step _ _ list (room-for buffer es l))
 
   -- without, the answer is ROOM with the bytes needed, and the buffer stays
   pub copy-roomless : (buffer : List ℕ) → length buffer < length (copyBytes es)
       → copy recordingBytes sheetBytes buffer ≡ (record { number = ROOM; place = length (copyBytes es); bytes = 0; messages = 0; packages = 0 }, buffer)
-  unfolding copy answered roomFor fitted
-  copy-roomless buffer l = ap (answered buffer) (step _ _ list (stop _ _ (halt _ _ _ _ (lt-ltb (length buffer) (length (copyBytes es)) l))))
+  unfolding copy answered reported filled
+  copy-roomless buffer l = ap (answered buffer) (step _ _ list (no-room-for buffer es l))
 
   pub delivered-is : (buffer : List ℕ) → length (copyBytes es) ≤ length buffer → delivered (copy recordingBytes sheetBytes buffer) ≡ copyBytes es
   delivered-is buffer l = ap delivered (copy-is buffer l) ∙ take-sets buffer (copyBytes es) l

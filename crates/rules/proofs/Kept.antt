@@ -9,7 +9,7 @@ use lib.ListN.{length, take, drop, set}
 use lib.Seq.{sets, sets-eq, length-sets, drop-set-lt, take-append-seam}
 use Rattle.rules.specs.Outcome.{Outcome, good, bad, _>>=_, ROOM}
 use Rattle.rules.specs.Buffer.{Written, fitted, stored}
-use Rattle.rules.specs.Copy.{Entry, copyBytes, answered}
+use Rattle.rules.specs.Copy.{Entry, copyBytes, reported, filled, answered}
 use Rattle.rules.specs.Burst.{randomizedAnswer, openedAnswer}
 use Rattle.rules.specs.Claims.{Careful}
 use Rattle.rules.proofs.Outcomes.{pass, halt, step}
@@ -32,7 +32,7 @@ careful-stored b (good s) = careful-sets b s
 careful-stored b (bad n p) = careful-none n b
 
 pub careful-answered : (b : List ℕ) (o : Outcome (List Entry)) → Careful (answered b o .0 .number) (answered b o .0 .bytes) b (answered b o .1)
-unfolding answered
+unfolding answered reported filled
 careful-answered b (good es) = careful-sets b (copyBytes es)
 careful-answered b (bad n p) = careful-none n b
 

@@ -15,6 +15,8 @@ pub mod Cleaned
 pub mod Valids
 pub mod RoundTrip
 pub mod Released
+pub mod Roomless
+pub mod Measured
 pub mod Interference
 pub mod Kept
 pub mod Apart

@@ -16,7 +16,7 @@ use Rattle.rules.specs.Buffer.{fitted}
 use Rattle.rules.specs.Writer.{write}
 use Rattle.rules.specs.Reading.{header, optionRun}
 use Rattle.rules.specs.Sheet.{bigEndian, rowOf, rowFits, row, sheet, grants}
-use Rattle.rules.specs.Copy.{granted, grantedPackages, withEntryOf, released, count, copyMessage, copyMessages, copyBytes, packagesIn, releasedOf, roomFor, answered, copy}
+use Rattle.rules.specs.Copy.{granted, grantedPackages, withEntryOf, released, count, copyMessage, copyMessages, copyBytes, packagesIn, releasedOf, roomFor, answered, reported, filled, copy}
 use Rattle.rules.specs.Burst.{bits, byteOf, sequenceByte}
 use Rattle.rules.specs.Table.{Table}
 use Rattle.rules.proofs.Outcomes.{pass, halt, stop, stop-before}
@@ -32,7 +32,7 @@ short s l =
     (stop _ _ (stop _ _ (stop _ _ (stop-before _ _ (halt _ _ _ _ (lt-ltb (length s) 24 (omega arith))))))))
 
 pub table : Table
-unfolding refuse _>>_ _>>=_ _∷>_ half word items lengthAllowed optionSize optionFits optionRunFrom packageFits piece packageOf pieceOf head checksOneToSix optionRunLength checksEightAndNine checksOneToNine checksOneToTen recordOf message recording header optionRun write bigEndian rowOf rowFits row sheet grants granted grantedPackages withEntryOf released count copyMessage copyMessages copyBytes packagesIn releasedOf roomFor fitted answered copy bits byteOf sequenceByte
+unfolding refuse _>>_ _>>=_ _∷>_ half word items lengthAllowed optionSize optionFits optionRunFrom packageFits piece packageOf pieceOf head checksOneToSix optionRunLength checksEightAndNine checksOneToNine checksOneToTen recordOf message recording header optionRun write bigEndian rowOf rowFits row sheet grants granted grantedPackages withEntryOf released count copyMessage copyMessages copyBytes packagesIn releasedOf roomFor fitted answered reported filled copy bits byteOf sequenceByte
 table = record {
   P1 = λ buffer. rw (leb·suc-zero (length buffer));
   P2 = short;

@@ -17,7 +17,7 @@ use Rattle.rules.specs.Writer.{write, Draft, accepted, written, writer}
 use Rattle.rules.specs.Clean.{cleanForm, cleaner}
 use Rattle.rules.specs.Valid.{Valid, DraftFits}
 use Rattle.rules.specs.Sheet.{Row}
-use Rattle.rules.specs.Copy.{granted, Entry, grantedPackages, released, count, copyMessage, copyMessages, copyBytes, releasedOf, copy, delivered}
+use Rattle.rules.specs.Copy.{granted, Entry, grantedPackages, released, count, copyMessage, copyMessages, copyBytes, releasedOf, measurement, copy, delivered}
 use Rattle.rules.specs.Table.{Table}
 use Rattle.rules.specs.Edges.{Edges}
 use Rattle.rules.specs.Burst.{_xor_, bit, sequenceByte, sequenceBytes, randomized, randomizer, marker, blockSize, mostBlocks, opening, opener}
@@ -188,6 +188,10 @@ BurstExactly = (s : List ℕ) → Bytes s → (blocks : ℕ) (after : List ℕ) 
 abbrev pub SameCopies : Type 0
 SameCopies = (recording recording′ sheet sheet′ buffer : List ℕ) → releasedOf recording sheet ≡ releasedOf recording′ sheet′ → copy recording sheet buffer ≡ copy recording′ sheet′ buffer
 
+-- Equal released lists give equal measurements.
+abbrev pub SameMeasurements : Type 0
+SameMeasurements = (recording recording′ sheet sheet′ : List ℕ) → releasedOf recording sheet ≡ releasedOf recording′ sheet′ → measurement recording sheet ≡ measurement recording′ sheet′
+
 -- Released lists that differ, and room for both, give copies that differ.
 abbrev pub DifferentCopies : Type 0
 DifferentCopies = (recording recording′ sheet sheet′ buffer buffer′ : List ℕ) → Bytes recording → Bytes recording′ → (es es′ : List Entry)
@@ -199,6 +203,21 @@ abbrev pub CountsReleased : Type 0
 CountsReleased = (recording sheet buffer : List ℕ) (es : List Entry) → releasedOf recording sheet ≡ good es → length (copyBytes es) ≤ length buffer
     → (copy recording sheet buffer .0 ≡ record { number = 0; place = 0; bytes = length (copyBytes es); messages = length es; packages = length (join (map (λ (e : Entry). e .packages) es)) })
     × (delivered (copy recording sheet buffer) ≡ copyBytes es)
+
+-- The measurement is the released list's: the bytes of its copy, its entries, and their packages joined.
+abbrev pub MeasuredReleased : Type 0
+MeasuredReleased = (recording sheet : List ℕ) (es : List Entry) → releasedOf recording sheet ≡ good es
+    → measurement recording sheet ≡ record { number = 0; place = 0; bytes = length (copyBytes es); messages = length es; packages = length (join (map (λ (e : Entry). e .packages) es)) }
+
+-- Measured first, then written. Measuring never gives ROOM. A buffer of the measured bytes has room, and what is written is what was measured, number for
+-- number; a shorter one is ROOM, with the measured bytes as its place. Otherwise both refuse the same for the same reason at the same place, and the buffer stays.
+pub record MeasuredFirst (recording sheet : List ℕ) : Type 0 where
+  pub roomless : measurement recording sheet .number ≡ ROOM → ⊥
+  pub enough : (buffer : List ℕ) → measurement recording sheet .bytes ≤ length buffer → copy recording sheet buffer .0 ≡ measurement recording sheet
+  pub short : (buffer : List ℕ) → length buffer < measurement recording sheet .bytes
+      → copy recording sheet buffer .0 ≡ record { number = ROOM; place = measurement recording sheet .bytes; bytes = 0; messages = 0; packages = 0 }
+  pub refused : (buffer : List ℕ) → (measurement recording sheet .number ≡ 0 → ⊥) → copy recording sheet buffer ≡ (measurement recording sheet, buffer)
+  pub alike : (buffer : List ℕ) → (copy recording sheet buffer .0 .number ≡ ROOM → ⊥) → copy recording sheet buffer .0 ≡ measurement recording sheet
 
 -- The sequence number of an entry's message is how many of the entries before it have its message id.
 abbrev pub SequenceCounted : Type 0
@@ -249,8 +268,9 @@ pub record Claims : Type 1 where
   pub reading : SpotOfRecord × SpotExactly × CountsChecked × PackageExactly × CutExactly × PackagePlace × WalkShowsAll × WalkStays
   pub writing : WrittenRead × ReadWritten × PartsWritten × WriterWrites
   pub cleaning : CleanerWrites × CleanAlone × CleanTwice × CleanExactly
+  pub measuring : MeasuredReleased × ((recording sheet : List ℕ) → MeasuredFirst recording sheet)
   pub copying : GrantedExactly × ((rows : List Row) → ReleasedExactly rows) × SequenceCounted × CountsReleased × CopyRead × CopyNotLonger × CopyPlain
   pub bursts : Recurrence × BitPeriod × TableEntry × RandomizedTwice × RandomizedByte × BurstExactly
-  pub silence : SameCopies × DifferentCopies
+  pub silence : SameCopies × SameMeasurements × DifferentCopies
   pub outcomes : OneOutcome
   pub numbers : Table × Edges

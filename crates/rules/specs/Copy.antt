@@ -1,4 +1,5 @@
--- Document 01, 'The released list and the copy': what a recording releases under a sheet, and the messages, the answer and the buffer of the copy.
+-- Document 01, 'The released list and the copy', measured first and then written (document 02, A3): what a recording releases under a sheet, what its copy
+-- takes, and the messages, the answer and the buffer of the copy.
 use Prim.Native.Nat.{ℕ, suc, _+_, _*_, _/_, _%_}
 use mathlib.Core.Bool.{Bool, true, false, _||_}
 use mathlib.Core.List.{List, [], _∷_, map}
@@ -72,7 +73,7 @@ unfoldable pub packagesIn : List Entry → ℕ
 packagesIn [] = 0
 packagesIn (e ∷ es) = length (e .packages) + packagesIn es
 
--- what the copy reports
+-- what measuring and writing report
 pub record Answer : Type 0 where
   pub number : ℕ
   pub place : ℕ
@@ -87,17 +88,28 @@ releasedOf recordingBytes sheetBytes = do
   ms ← recording recordingBytes
   good (released rs ms)
 
+-- number and place, both 0 on success; and what the copy of the released list takes, zero on a refusal
+unfoldable pub reported : Outcome (List Entry) → Answer
+reported (bad n p) = record { number = n; place = p; bytes = 0; messages = 0; packages = 0 }
+reported (good es) = record { number = 0; place = 0; bytes = length (copyBytes es); messages = length es; packages = packagesIn es }
+
+-- the measurement of a recording under the bytes of a sheet: what the copy takes, and nothing is written
+unfoldable pub measurement : List ℕ → List ℕ → Answer
+measurement recordingBytes sheetBytes = reported (releasedOf recordingBytes sheetBytes)
+
 -- the released list, if the buffer has room for its copy
 unfoldable pub roomFor : List ℕ → List Entry → Outcome (List Entry)
 roomFor buffer es = fitted buffer (copyBytes es) >>= λ bytes. good es
 
--- the answer, and the buffer after it
-unfoldable pub answered : List ℕ → Outcome (List Entry) → Answer × List ℕ
-answered buffer (bad n p) = (record { number = n; place = p; bytes = 0; messages = 0; packages = 0 }, buffer)
-answered buffer (good es) =
-    (record { number = 0; place = 0; bytes = length (copyBytes es); messages = length es; packages = packagesIn es }, sets buffer 0 (copyBytes es))
+-- the buffer after: the copy from its start on
+unfoldable pub filled : List ℕ → Outcome (List Entry) → List ℕ
+filled buffer (bad n p) = buffer
+filled buffer (good es) = sets buffer 0 (copyBytes es)
 
--- the copy of a recording under the bytes of a sheet
+-- the copy of a recording under the bytes of a sheet: what writing it reports, and the buffer after it
+unfoldable pub answered : List ℕ → Outcome (List Entry) → Answer × List ℕ
+answered buffer o = (reported o, filled buffer o)
+
 unfoldable pub copy : List ℕ → List ℕ → List ℕ → Answer × List ℕ
 copy recordingBytes sheetBytes buffer = answered buffer (releasedOf recordingBytes sheetBytes >>= roomFor buffer)
 

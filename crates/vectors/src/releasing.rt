@@ -1,7 +1,7 @@
 // Order sheets and the copy.
 use message::Mdid;
 use message::Pdid;
-use release::Copied;
+use release::Answer;
 use sheet::Row;
 use sheet::SheetAnswer;
 ghost use Prim.Native.Nat.{_≤_};
@@ -76,21 +76,28 @@ fn granted(count: usize, message: u32) {
     crate::end();
 }
 
-// Number, place, bytes, messages and packages; and the buffer.
-fn copied(recording: &[u8], sheet: &[u8], out: &mut [u8]) {
-    match release::copy(recording, sheet, out) {
-        Copied::Written(t) => {
+// Number, place, bytes, messages and packages.
+fn answer(a: Answer) {
+    match a {
+        Answer::Totals(t) => {
             crate::two_zeros();
             crate::number(t.bytes);
             crate::number(t.messages);
             crate::number(t.packages);
         }
-        Copied::Refused(x) => {
+        Answer::Refused(x) => {
             crate::refusal(x);
             crate::number(0);
             crate::two_zeros();
         }
     }
+}
+
+// What is measured; and what is written, with the buffer.
+fn copied(recording: &[u8], sheet: &[u8], out: &mut [u8]) {
+    answer(release::measure(recording, sheet));
+    crate::end();
+    answer(release::write(recording, sheet, out));
     crate::show(out);
 }
 
@@ -117,7 +124,7 @@ pub fn releasing() {
     granted(1, 7);
     granted(33, 7);
     granted(33, 8);
-    // P1 and P10; a buffer of 44 bytes keeps its last four, and one of 39 is ROOM, 40.
+    // P1 and P10, measured and written; a buffer of 44 bytes keeps its last four, and one of 39 is ROOM, 40, for writing alone.
     under_r(0, 32, 44);
     under_r(56, 32, 44);
     under_r(56, 32, 39);

@@ -1,5 +1,6 @@
 //! Times the library's exports against the second program and against a plain
-//! copy of the same bytes. The three ways take turns; medians are shown.
+//! copy of the same bytes, and measuring a copy beside writing it. The ways take
+//! turns; medians are shown.
 
 use second::burst::{CODEBLOCK_BYTES, MARKER_BYTES};
 use second::dice::Dice;
@@ -14,14 +15,15 @@ use std::time::Instant;
 
 const SIZES: [usize; 3] = [4_096, 16_384, 65_536];
 const CODEBLOCKS: [usize; 3] = [5, 21, 80];
-/// The ways: the export, the second program, the plain copy.
-const WAYS: usize = 3;
 /// One sample takes about so many nanoseconds.
 const SAMPLE: f64 = 40_000.0;
 
 /// The package ids; a sheet grants the first alone.
 const GRANTED: u32 = 1;
 const WITHHELD: u32 = 2;
+
+const SHAPES: [Shape; 2] = [Shape::Typical, Shape::Small];
+const KINDS: [Kind; 4] = [Kind::OneId, Kind::ManyIds, Kind::LastOf32Rows, Kind::NewIdEach];
 
 /// What a recording is made of.
 #[derive(Clone, Copy)]
@@ -41,11 +43,21 @@ enum Kind {
     NewIdEach,
 }
 
-/// The medians of one scene, in nanoseconds.
+/// The medians of one scene, in nanoseconds: the export, the second program,
+/// the plain copy.
 struct Line {
     name: String,
     bytes: usize,
-    medians: [f64; WAYS],
+    medians: [f64; 3],
+}
+
+/// The medians of measuring and of writing the same copy, in nanoseconds: by
+/// the export, by the second program.
+struct Beside {
+    name: String,
+    bytes: usize,
+    measuring: [f64; 2],
+    writing: [f64; 2],
 }
 
 fn main() -> ExitCode {
@@ -59,21 +71,21 @@ fn main() -> ExitCode {
         eprintln!("usage: bench [--repetitions N]");
         return ExitCode::from(2);
     };
-    println!("medians of {repetitions} samples; the three ways take turns");
+    println!("medians of {repetitions} samples; the ways take turns");
     println!(
-        "{:<40}{:>7}{:>11}{:>11}{:>11}{:>15}{:>15}",
+        "{:<44}{:>7}{:>11}{:>11}{:>11}{:>15}{:>15}",
         "", "bytes", "export ns", "second ns", "memcpy ns", "export/second", "export/memcpy"
     );
     let mut copies = Vec::new();
-    for shape in [Shape::Typical, Shape::Small] {
+    for shape in SHAPES {
         for size in SIZES {
             show(&time_check(shape, size, repetitions));
         }
         for size in SIZES {
             show(&time_clean(shape, size, repetitions));
         }
-        for kind in [Kind::OneId, Kind::ManyIds, Kind::LastOf32Rows, Kind::NewIdEach] {
-            let lines = SIZES.map(|size| time_copy(shape, kind, size, repetitions));
+        for kind in KINDS {
+            let lines = SIZES.map(|size| time_copy_write(shape, kind, size, repetitions));
             lines.iter().for_each(show);
             copies.push(lines);
         }
@@ -82,10 +94,22 @@ fn main() -> ExitCode {
         show(&time_open_burst(codeblocks, repetitions));
     }
     println!("\ncost per byte at 64 KiB over that at 4 KiB");
-    println!("{:<40}{:>11}{:>11}", "", "export", "second");
+    println!("{:<44}{:>11}{:>11}", "", "export", "second");
     for [least, _, most] in &copies {
         let (export, second) = (growth(least, most, 0), growth(least, most, 1));
-        println!("{:<40}{export:>11.2}{second:>11.2}", least.name);
+        println!("{:<44}{export:>11.2}{second:>11.2}", least.name);
+    }
+    println!("\nmeasuring a copy beside writing it");
+    println!(
+        "{:<44}{:>7}{:>11}{:>11}{:>19}{:>19}",
+        "", "bytes", "measure ns", "write ns", "measuring/writing", "the second's own"
+    );
+    for shape in SHAPES {
+        for kind in KINDS {
+            for size in SIZES {
+                show_beside(&time_beside(shape, kind, size, repetitions));
+            }
+        }
     }
     ExitCode::SUCCESS
 }
@@ -93,11 +117,22 @@ fn main() -> ExitCode {
 fn show(line: &Line) {
     let [export, second, memcpy] = line.medians;
     println!(
-        "{:<40}{:>7}{export:>11.0}{second:>11.0}{memcpy:>11.0}{:>15.2}{:>15.2}",
+        "{:<44}{:>7}{export:>11.0}{second:>11.0}{memcpy:>11.0}{:>15.2}{:>15.2}",
         line.name,
         line.bytes,
         export / second,
         export / memcpy
+    );
+}
+
+fn show_beside(beside: &Beside) {
+    let ([measure, own_measure], [write, own_write]) = (beside.measuring, beside.writing);
+    println!(
+        "{:<44}{:>7}{measure:>11.0}{write:>11.0}{:>19.2}{:>19.2}",
+        beside.name,
+        beside.bytes,
+        measure / write,
+        own_measure / own_write
     );
 }
 
@@ -116,12 +151,15 @@ fn sample(way: &mut dyn FnMut(), calls: usize) -> f64 {
 }
 
 /// Times the ways in turn and gives the median of each.
-fn medians(repetitions: usize, mut ways: [&mut dyn FnMut(); WAYS]) -> [f64; WAYS] {
+fn medians<const WAYS: usize>(
+    repetitions: usize,
+    mut ways: [&mut dyn FnMut(); WAYS],
+) -> [f64; WAYS] {
     let calls = ways.each_mut().map(|way| {
         sample(way, 3);
         ((SAMPLE / sample(way, 3).max(1.0)) as usize).max(1)
     });
-    let mut samples: [Vec<f64>; WAYS] = Default::default();
+    let mut samples = [const { Vec::new() }; WAYS];
     for turn in 0..repetitions {
         for step in 0..WAYS {
             // No way is always the first.
@@ -281,44 +319,104 @@ fn time_clean(shape: Shape, size: usize, repetitions: usize) -> Line {
     Line { name: format!("clean, {}", shape_name(shape)), bytes: length, medians }
 }
 
-fn time_copy(shape: Shape, kind: Kind, size: usize, repetitions: usize) -> Line {
-    let recording = recording(shape, kind, size);
-    let sheet = sheet(kind);
-    let length = recording.len();
-    let mut values = [0; 4];
-    let mut outs = [vec![0; length], vec![0; length], vec![0; length]];
-    let [export_out, second_out, target] = &mut outs;
-    let mut export = || {
-        let (bytes, order) = (black_box(&recording), black_box(&sheet));
-        // The pointers and the lengths are those of the inputs and the buffer.
-        let number = unsafe {
-            raw::hibernaxo_copy(
-                bytes.as_ptr(),
-                length,
-                order.as_ptr(),
-                order.len(),
-                export_out.as_mut_ptr(),
-                length,
-                values.as_mut_ptr(),
-            )
-        };
-        assert_eq!(black_box(number), 0);
-        black_box(&mut *export_out);
-    };
-    let mut second = || {
-        assert!(copy::copy(black_box(&recording), black_box(&sheet), second_out).is_ok());
-        black_box(&mut *second_out);
-    };
-    let mut plain = || memcpy(&recording, target);
-    let medians = medians(repetitions, [&mut export, &mut second, &mut plain]);
-    assert!(outs[0] == outs[1], "the two copies differ");
-    let kind_name = match kind {
+fn kind_name(kind: Kind) -> &'static str {
+    match kind {
         Kind::OneId => "one id",
         Kind::ManyIds => "16 ids",
         Kind::LastOf32Rows => "last of 32 rows",
         Kind::NewIdEach => "each message a new id",
+    }
+}
+
+/// Writes the copy with the export; a buffer as long as the recording has room.
+fn export_write(recording: &[u8], sheet: &[u8], out: &mut [u8]) -> [u64; 4] {
+    let (recording, sheet, out) = (black_box(recording), black_box(sheet), black_box(out));
+    let mut values = [0; 4];
+    // The pointers and the lengths are those of the inputs and the buffer.
+    let number = unsafe {
+        raw::hibernaxo_copy_write(
+            recording.as_ptr(),
+            recording.len(),
+            sheet.as_ptr(),
+            sheet.len(),
+            out.as_mut_ptr(),
+            out.len(),
+            values.as_mut_ptr(),
+        )
     };
-    Line { name: format!("copy, {}, {kind_name}", shape_name(shape)), bytes: length, medians }
+    assert_eq!(black_box(number), 0);
+    black_box(out);
+    black_box(values)
+}
+
+/// Measures the copy with the export.
+fn export_measure(recording: &[u8], sheet: &[u8]) -> [u64; 4] {
+    let (recording, sheet) = (black_box(recording), black_box(sheet));
+    let mut values = [0; 4];
+    // The pointers and the lengths are those of the inputs.
+    let number = unsafe {
+        raw::hibernaxo_copy_measure(
+            recording.as_ptr(),
+            recording.len(),
+            sheet.as_ptr(),
+            sheet.len(),
+            values.as_mut_ptr(),
+        )
+    };
+    assert_eq!(black_box(number), 0);
+    black_box(values)
+}
+
+/// Writes the copy with the second program.
+fn second_write(recording: &[u8], sheet: &[u8], out: &mut [u8]) {
+    assert!(copy::write(black_box(recording), black_box(sheet), out).is_ok());
+    black_box(out);
+}
+
+fn time_copy_write(shape: Shape, kind: Kind, size: usize, repetitions: usize) -> Line {
+    let recording = recording(shape, kind, size);
+    let sheet = sheet(kind);
+    let length = recording.len();
+    let mut outs = [vec![0; length], vec![0; length], vec![0; length]];
+    let [export_out, second_out, target] = &mut outs;
+    let mut export = || {
+        export_write(&recording, &sheet, export_out);
+    };
+    let mut second = || second_write(&recording, &sheet, second_out);
+    let mut plain = || memcpy(&recording, target);
+    let medians = medians(repetitions, [&mut export, &mut second, &mut plain]);
+    assert!(outs[0] == outs[1], "the two copies differ");
+    let name = format!("copy write, {}, {}", shape_name(shape), kind_name(kind));
+    Line { name, bytes: length, medians }
+}
+
+/// Times measuring and writing of one copy, by the export and by the second
+/// program.
+fn time_beside(shape: Shape, kind: Kind, size: usize, repetitions: usize) -> Beside {
+    let recording = recording(shape, kind, size);
+    let sheet = sheet(kind);
+    let length = recording.len();
+    let (mut export_out, mut second_out) = (vec![0; length], vec![0; length]);
+    let measured = export_measure(&recording, &sheet);
+    assert_eq!(measured, export_write(&recording, &sheet, &mut export_out));
+    let mut measuring = || {
+        export_measure(&recording, &sheet);
+    };
+    let mut writing = || {
+        export_write(&recording, &sheet, &mut export_out);
+    };
+    let mut own_measuring = || {
+        assert!(black_box(copy::measure(black_box(&recording), black_box(&sheet))).is_ok());
+    };
+    let mut own_writing = || second_write(&recording, &sheet, &mut second_out);
+    let [measure, write, own_measure, own_write] =
+        medians(repetitions, [&mut measuring, &mut writing, &mut own_measuring, &mut own_writing]);
+    Beside {
+        name: format!("{}, {}", shape_name(shape), kind_name(kind)),
+        bytes: length,
+        measuring: [measure, own_measure],
+        writing: [write, own_write],
+    }
 }
 
 fn time_open_burst(codeblocks: usize, repetitions: usize) -> Line {

@@ -1,5 +1,7 @@
 -- `hibernaxo::hibernaxo_write` meets its contract: what the writer answered, and the buffer that it left.
 use borrow.Author.Needs.{needs}
+use Rattle.compose.specs.Told.{numbers}
+use Rattle.hibernaxo.specs.Told.{writtenValues}
 use Rattle.hibernaxo.proofs.Buffers.{with-buffer}
 use Rattle.hibernaxo.proofs.hibernaxo_write.Statement.{statement}
 use Rattle.hibernaxo.proofs.hibernaxo_write.Tie as tie
@@ -14,7 +16,7 @@ same-length : tie.Need-same-length
 same-length c = search needs
 
 returns : tie.Need-returns
-returns c = with-buffer (c .before .before .before .before .write .result) _ (c .put-written .ensures) (c .before .before .before .before .write .ensures)
+returns c = with-buffer writtenValues (numbers (c .before .before .before .before .write .result)) _ (c .put-written .ensures) (c .before .before .before .before .write .ensures)
 
 pub hibernaxo-write-spec : {M : Type 1} → statement M
 hibernaxo-write-spec = tie.close (tie.spec write-requires put-written-requires same-length returns)
