@@ -380,6 +380,9 @@ static void sheets(void)
     sheet = zeros(31);
     CALL(hibernaxo_sheet, sheet.bytes, sheet.length, values(HIBERNAXO_SHEET_VALUES));
     EXPECT(HIBERNAXO_ROW, 31);
+    sheet = zeros(32); /* a row whose window ends where it starts */
+    CALL(hibernaxo_sheet, sheet.bytes, sheet.length, values(HIBERNAXO_SHEET_VALUES));
+    EXPECT(HIBERNAXO_ROW, 0);
     /* a second row from message id 8 to 7 */
     sheet = input("00000007 00000007 00000001 00000001 00000064 00000000 00000194 00000000"
                   "00000008 00000007 00000001 00000001 00000064 00000000 00000194 00000000");

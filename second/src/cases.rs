@@ -9,20 +9,22 @@ use crate::judge::Judge;
 use crate::lent::room_for;
 use crate::orders::{bad_sheet, everything, pack_sheet, rows, targets, Target};
 use crate::refusal::{MOST_BYTES, ROOM};
-use crate::{copy, demand, measuring, render, round_trips, side_by_side};
+use crate::seams::Seam;
+use crate::{copy, demand, measuring, releases, render, round_trips, side_by_side};
 
 type Case = fn(&mut Judge, &mut Dice);
 
 /// The kinds of cases and how many of each there are in a hundred.
-const KINDS: [(u64, Case); 13] = [
-    (10, header_case),
+const KINDS: [(u64, Case); 14] = [
+    (9, header_case),
     (9, package_case),
-    (10, check_case),
+    (9, check_case),
     (12, write_case),
     (9, clean_case),
-    (8, sheet_case),
+    (7, sheet_case),
     (12, copy_case),
     (4, measuring_case),
+    (3, seam_case),
     (2, randomize_case),
     (4, open_burst_case),
     (9, demand::withheld_case),
@@ -247,6 +249,12 @@ fn measuring_case(judge: &mut Judge, dice: &mut Dice) {
     judge.kind("measured, then written");
     let (recording, sheet) = recording_and_sheet(dice);
     measuring::measured_then_written(judge, dice, &recording, &sheet);
+}
+
+fn seam_case(judge: &mut Judge, dice: &mut Dice) {
+    judge.kind("neighbouring windows");
+    let seam = Seam::new(dice);
+    releases::neighbours(judge, dice, &seam);
 }
 
 fn randomize_case(judge: &mut Judge, dice: &mut Dice) {

@@ -290,7 +290,8 @@ pub fn messages(dice: &mut Dice, world: &World) -> Vec<DirtyMessage> {
     messages
 }
 
-/// Package 0 of message 0 at time 0, which an all-zero row would grant.
+/// Package 0 of message 0 at time 0, which an all-zero row would grant if its
+/// window had its end.
 fn zero_message(dice: &mut Dice, world: &World) -> DirtyMessage {
     let mut zero = message(dice, world, 2);
     (zero.message_id, zero.seconds, zero.nanoseconds) = (0, 0, 0);

@@ -20,6 +20,7 @@ pub mod dice;
 pub mod drafts;
 pub mod generate;
 pub mod orders;
+pub mod seams;
 
 // The comparison with the library's exports.
 pub mod answers;
@@ -36,6 +37,8 @@ pub mod limits;
 #[cfg(feature = "exports")]
 pub mod measuring;
 pub mod programs;
+#[cfg(feature = "exports")]
+pub mod releases;
 #[cfg(feature = "exports")]
 pub mod round_trips;
 #[cfg(feature = "exports")]

@@ -11,14 +11,16 @@ use crate::judge::Judge;
 use crate::measuring::measured_then_written;
 use crate::orders::*;
 use crate::paper::{m_with, m_with_options, message_m, row_r};
+use crate::releases::neighbours;
 use crate::round_trips::{trip, TRIPS};
+use crate::seams::Seam;
 use crate::sheet::Row;
 use crate::side_by_side;
 
 type Part = fn(&mut Limits);
 
 /// The parts in their order.
-const PARTS: [(&str, Part); 14] = [
+const PARTS: [(&str, Part); 15] = [
     ("the paper's numbers", paper_numbers),
     ("sizes", sizes),
     ("faults", faults),
@@ -27,6 +29,7 @@ const PARTS: [(&str, Part); 14] = [
     ("writer", writer),
     ("sheets", sheets),
     ("grants", grants),
+    ("neighbouring windows", neighbouring_windows),
     ("the copy's order", copy_order),
     ("measuring", measuring),
     ("sequence numbers", sequence_numbers),
@@ -153,7 +156,7 @@ fn paper_numbers(limits: &mut Limits) {
     for flags in 0..=255 {
         limits.message(&m_with(3, &[flags]));
     }
-    for end in [9, 10] {
+    for end in [9, 10, 11] {
         let row = Row { end_seconds: 100, end_nanoseconds: end, ..package_2_of_m() };
         limits.copy(&m, &pack_row(&row, 0), 56);
     }
@@ -362,9 +365,12 @@ fn longest_writes(limits: &mut Limits, draft: &OwnDraft) {
 
 /// Sheets of every size, and every kind of bad row at every index.
 fn sheets(limits: &mut Limits) {
+    let good: Vec<u8> = pack_row(&everything(), 0).into_iter().cycle().take(100_000).collect();
     for length in (0..=70).chain([992, 1_023, 1_024, 1_025, 1_055, 1_056, 2_048, 65_537, 100_000]) {
-        limits.sheet(&vec![0; length]);
-        limits.copy(&message_m(), &vec![0; length], 56);
+        for sheet in [&good[..length], &vec![0; length]] {
+            limits.sheet(sheet);
+            limits.copy(&message_m(), sheet, 56);
+        }
         limits.sheet(&vec![0xFF; length]);
     }
     for index in 0..32 {
@@ -386,8 +392,8 @@ fn sheets(limits: &mut Limits) {
     }
     // Each bit of a row alone.
     for bit in 0..256 {
-        let mut sheet = pack_row(&Row::default(), 0);
-        sheet[bit / 8] |= 0x80 >> (bit % 8);
+        let mut sheet = pack_row(&first_moment(), 0);
+        sheet[bit / 8] ^= 0x80 >> (bit % 8);
         limits.sheet(&sheet);
         let mut sheet = pack_row(&everything(), 0);
         sheet[bit / 8] ^= 0x80 >> (bit % 8);
@@ -397,6 +403,17 @@ fn sheets(limits: &mut Limits) {
     let across =
         Row { start_seconds: 5, start_nanoseconds: 999_999_999, end_seconds: 6, ..Row::default() };
     limits.sheet(&pack_row(&across, 0));
+    // The end comes just before the start, at it, and just behind it.
+    for start in [1, 999_999_999, 1_000_000_000, 5_999_999_999, 1 << 32, LATEST - 1] {
+        for end in [start - 1, start, start + 1] {
+            limits.sheet(&pack_row(&with_window(everything(), start, end), 0));
+        }
+    }
+}
+
+/// A row for package 0 of message 0 at time 0 and for nothing else.
+fn first_moment() -> Row {
+    Row { end_nanoseconds: 1, ..Row::default() }
 }
 
 /// Ranges that just touch a package at both ends.
@@ -421,6 +438,7 @@ fn grants(limits: &mut Limits) {
         limits.copy(&recording, &[], recording.len());
         limits.copy(&recording, &pack_row(&everything(), 0), recording.len());
         limits.copy(&recording, &pack_row(&Row::default(), 0), recording.len());
+        limits.copy(&recording, &pack_row(&first_moment(), 0), recording.len());
         for _ in 0..60 {
             let row = row_near(&mut limits.dice, target);
             limits.copy(&recording, &pack_row(&row, 0), recording.len());
@@ -435,9 +453,35 @@ fn grants(limits: &mut Limits) {
     }
 }
 
+/// Seams at the ends of time, on whole seconds and beside them, and in windows
+/// of one moment.
+fn neighbouring_windows(limits: &mut Limits) {
+    let seconds = |seconds: u64| 1_000_000_000 * seconds;
+    for (start, seam, end) in [
+        (0, 1, 2),
+        (0, 1, LATEST),
+        (LATEST - 2, LATEST - 1, LATEST),
+        (0, LATEST - 1, LATEST),
+        (0, LATEST / 2, LATEST),
+        (seconds(100), seconds(100) + 10, seconds(100) + 11),
+        (seconds(100), seconds(100) + 10, seconds(101)),
+        (seconds(5), seconds(6), seconds(7)),
+        (seconds(5), seconds(6) - 1, seconds(7)),
+        (seconds(5), seconds(6) + 1, seconds(7)),
+        ((1 << 32) - 1, 1 << 32, (1 << 32) + 1),
+        (seconds(1 << 31) - 1, seconds(1 << 31), seconds(1 << 31) + 1),
+    ] {
+        for _ in 0..5 {
+            let seam = Seam::at(&mut limits.dice, start, seam, end);
+            limits.next("neighbouring windows");
+            neighbours(limits.judge, &mut limits.dice, &seam);
+        }
+    }
+}
+
 /// ROW before LARGE, LARGE before the messages, the messages before ROOM.
 fn copy_order(limits: &mut Limits) {
-    let bad_row = pack_row(&Row::default(), 1);
+    let bad_row = pack_row(&everything(), 1);
     let bad_size = vec![0; 33];
     let all = pack_sheet(&[everything()]);
     let large = vec![0; 65_537];

@@ -6,11 +6,11 @@ use crate::generate::DirtyMessage;
 use crate::parse::package_time;
 use crate::sheet::Row;
 
-/// The latest time that a row can name, in nanoseconds.
-const LATEST: u64 = 4_294_967_295_999_999_999;
+/// The latest time that a row can name, in nanoseconds; none can grant it.
+pub const LATEST: u64 = 4_294_967_295_999_999_999;
 
 /// How many kinds of bad row there are.
-pub const BAD_ROWS: usize = 11;
+pub const BAD_ROWS: usize = 12;
 
 /// A package that a row may aim at.
 #[derive(Clone, Copy, Debug)]
@@ -88,7 +88,7 @@ pub fn row_near(dice: &mut Dice, target: Target) -> Row {
     let miss = dice.below(6);
     let message = range_near(dice, target.message_id.into(), ids, miss == 0);
     let package = range_near(dice, target.package_id.into(), ids, miss == 1);
-    let time = range_near(dice, target.time, LATEST, miss == 2);
+    let time = range_near(dice, target.time, LATEST - 1, miss == 2);
     row_of(message, package, time)
 }
 
@@ -97,20 +97,31 @@ pub fn row_around(dice: &mut Dice, target: Target) -> Row {
     let ids = u64::from(u32::MAX);
     let message = range_near(dice, target.message_id.into(), ids, false);
     let package = range_near(dice, target.package_id.into(), ids, false);
-    let time = range_near(dice, target.time, LATEST, false);
+    let time = range_near(dice, target.time, LATEST - 1, false);
     row_of(message, package, time)
 }
 
+/// A row of these ranges, which have both their ends; the row's window ends
+/// just behind the last time.
 fn row_of(message: (u64, u64), package: (u64, u64), time: (u64, u64)) -> Row {
-    Row {
+    let ids = Row {
         message_first: message.0 as u32,
         message_last: message.1 as u32,
         package_first: package.0 as u32,
         package_last: package.1 as u32,
-        start_seconds: (time.0 / 1_000_000_000) as u32,
-        start_nanoseconds: (time.0 % 1_000_000_000) as u32,
-        end_seconds: (time.1 / 1_000_000_000) as u32,
-        end_nanoseconds: (time.1 % 1_000_000_000) as u32,
+        ..Row::default()
+    };
+    with_window(ids, time.0, time.1 + 1)
+}
+
+/// The row with the window from `start` on up to `end`, in nanoseconds.
+pub fn with_window(row: Row, start: u64, end: u64) -> Row {
+    Row {
+        start_seconds: (start / 1_000_000_000) as u32,
+        start_nanoseconds: (start % 1_000_000_000) as u32,
+        end_seconds: (end / 1_000_000_000) as u32,
+        end_nanoseconds: (end % 1_000_000_000) as u32,
+        ..row
     }
 }
 
@@ -205,6 +216,11 @@ pub fn bad_row(dice: &mut Dice, way: usize) -> Vec<u8> {
         }
         5 => row.end_nanoseconds = too_late,
         6..=9 => spare = 1 << (way - 6),
+        10 => {
+            // A window without a moment.
+            row.end_seconds = row.start_seconds;
+            row.end_nanoseconds = row.start_nanoseconds;
+        }
         _ => {
             spare = 1 + dice.below(15) as u32;
             row.end_nanoseconds = too_late;

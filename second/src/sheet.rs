@@ -27,10 +27,11 @@ impl Row {
         package_time(self.end_seconds, self.end_nanoseconds, 0)
     }
 
+    /// The id ranges have both their ends; the window has its start alone.
     pub fn grants(&self, message_id: u32, package_id: u32, time: u64) -> bool {
         (self.message_first..=self.message_last).contains(&message_id)
             && (self.package_first..=self.package_last).contains(&package_id)
-            && (self.start()..=self.end()).contains(&time)
+            && (self.start()..self.end()).contains(&time)
     }
 }
 
@@ -72,7 +73,7 @@ fn read_row(bytes: &[u8]) -> Option<Row> {
         && row.package_first <= row.package_last
         && row.start_nanoseconds <= MOST_NANOSECONDS
         && row.end_nanoseconds <= MOST_NANOSECONDS
-        && row.start() <= row.end()
+        && row.start() < row.end()
         && spare == 0;
     good.then_some(row)
 }

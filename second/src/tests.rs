@@ -158,17 +158,19 @@ fn a_burst_is_opened_once_over_all_codeblocks() {
     assert_eq!(burst[8 + 768], 0xC0);
 }
 
-/// Package 2 of M is granted by time if the row ends at 100 s 10 ns.
+/// Package 2 of M is granted by time if the row ends behind 100 s 10 ns.
 #[test]
-fn a_row_to_10_ns_grants_package_2_and_one_to_9_ns_does_not() {
+fn a_row_to_11_ns_grants_package_2_and_one_to_10_ns_does_not() {
     let row = "00000007 00000007 00000002 00000002 00000064 00000000";
-    // 100 s and then ns, each 4 times as high for the bits that follow.
+    // 100 s stand 2 bits to the left, then ns stand above the 4 spare bits.
+    let to_11 = from_hex(&format!("{row} 00000190 000000B0"));
     let to_10 = from_hex(&format!("{row} 00000190 000000A0"));
     let to_9 = from_hex(&format!("{row} 00000190 00000090"));
     let mut buffer = [0; 56];
     let one = Copied { bytes: 40, messages: 1, packages: 1 };
-    assert_eq!(copy::write(&message_m(), &to_10, &mut buffer), Ok(one));
+    assert_eq!(copy::write(&message_m(), &to_11, &mut buffer), Ok(one));
     let none = Copied { bytes: 0, messages: 0, packages: 0 };
+    assert_eq!(copy::write(&message_m(), &to_10, &mut buffer), Ok(none));
     assert_eq!(copy::write(&message_m(), &to_9, &mut buffer), Ok(none));
 }
 

@@ -15,7 +15,7 @@ use Rattle.rules.specs.Clean.{cleanForm, cleaner}
 use Rattle.rules.specs.Sheet.{Row}
 use Rattle.rules.specs.Copy.{Entry, packagesIn, releasedOf, reported, measurement, roomFor, answered, copy}
 use Rattle.rules.specs.Burst.{randomized, opening, randomizer, opener}
-use Rattle.rules.specs.Claims.{BuffersKept, PremisesMet, CountsChecked, WrittenRead, AcceptedValid, ReadValid, ReadWritten, PartsWritten, WriterWrites, CleanerWrites, RoomRefused, SpotOfRecord, SpotExactly, CleanAlone, CleanTwice, CleanExactly, PackageExactly, PackagePlace, CutExactly, WalkShowsAll, WalkStays, GrantedExactly, Recurrence, BitPeriod, TableEntry, RandomizedTwice, RandomizedByte, BurstExactly, SameCopies, SameMeasurements, DifferentCopies, CountsReleased, MeasuredReleased, MeasuredFirst, SequenceCounted, ReleasedExactly, CopyRead, CopyNotLonger, CopyPlain, OneOutcome, Claims, partsOf}
+use Rattle.rules.specs.Claims.{BuffersKept, PremisesMet, CountsChecked, WrittenRead, AcceptedValid, ReadValid, ReadWritten, PartsWritten, WriterWrites, CleanerWrites, RoomRefused, SpotOfRecord, SpotExactly, CleanAlone, CleanTwice, CleanExactly, PackageExactly, PackagePlace, CutExactly, WalkShowsAll, WalkStays, GrantedExactly, NoEmptyWindow, SeamOnce, SeamWhole, Recurrence, BitPeriod, TableEntry, RandomizedTwice, RandomizedByte, BurstExactly, SameCopies, SameMeasurements, DifferentCopies, CountsReleased, MeasuredReleased, MeasuredFirst, SequenceCounted, ReleasedExactly, CopyRead, CopyNotLonger, CopyPlain, OneOutcome, Claims, partsOf}
 use Rattle.rules.proofs.Outcomes.{pass, step, stepped, came-after, good-inj}
 use Rattle.rules.proofs.Kept.{careful-stored, careful-answered, kept-randomized, kept-opened, writes, roomless}
 use Rattle.rules.proofs.Cut as Cut
@@ -25,7 +25,7 @@ use Rattle.rules.proofs.RoundTrip as RoundTrip
 use Rattle.rules.proofs.Writer.{accepts, accepted-valid, parts, parts-written}
 use Rattle.rules.proofs.Refused.{exactly}
 use Rattle.rules.proofs.Walks.{walks-cut, stays}
-use Rattle.rules.proofs.Granted.{granted-exactly}
+use Rattle.rules.proofs.Granted as Granted
 use Rattle.rules.proofs.Sequence as Sequence
 use Rattle.rules.proofs.Bursts.{randomizer-is, burst-exactly}
 use Rattle.rules.specs.Table.{Table}
@@ -142,7 +142,16 @@ pub walk-stays : WalkStays
 walk-stays = stays
 
 pub granted-by-ranges : GrantedExactly
-granted-by-ranges rows m k = granted-exactly m k rows
+granted-by-ranges rows m k = Granted.granted-exactly m k rows
+
+pub no-empty-window : NoEmptyWindow
+no-empty-window = Granted.no-empty-window
+
+pub seam-once : SeamOnce
+seam-once rows rows′ seam ends starts m k = Granted.seam-once m k rows rows′ seam ends starts
+
+pub seam-whole : SeamWhole
+seam-whole r a b c l h m k = Granted.seam-whole m k r a b c l h
 
 pub recurrence : Recurrence
 recurrence = Sequence.recurrence
@@ -251,7 +260,7 @@ all-claims = record {
   writing = (written-read, read-written, parts-give-clean, writer-writes);
   cleaning = (cleaner-writes, clean-alone, clean-twice, clean-exactly);
   measuring = (measured-released, measured-first);
-  copying = (granted-by-ranges, released-exactly, sequence-counted, counts-released, copy-is-read, copy-not-longer, copy-is-plain);
+  copying = (granted-by-ranges, no-empty-window, seam-once, seam-whole, released-exactly, sequence-counted, counts-released, copy-is-read, copy-not-longer, copy-is-plain);
   bursts = (recurrence, bit-period, table-entry, randomized-twice, randomized-byte, burst-is);
   silence = (same-copies, same-measurements, different-copies);
   outcomes = one-outcome;

@@ -113,6 +113,7 @@ edges = record {
   rows = refl;
   sheets = refl;
   shown = refl;
+  granted = refl;
   flags = refl;
   marked = refl;
   markers = refl;

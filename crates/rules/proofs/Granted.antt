@@ -1,22 +1,46 @@
--- A package is granted exactly if its ids and its time lie in the ranges of some row.
-use mathlib.Core.Path.{_≡_, refl}
+-- A package is granted exactly if its ids lie in the ranges and its time in the window of some row; windows that meet; and no window is empty.
+use mathlib.Core.Path.{_≡_, refl, subst}
 use mathlib.Core.Logic.{_↔_}
-use mathlib.Core.Bool.{Bool, true, false, _||_}
+use mathlib.Core.Bool.{Bool, true, false, _&&_, _||_}
 use mathlib.Core.List.{List, [], _∷_}
 use native.Mathlib.Omega.{arith}
-use borrow.Author.Tests.{leb-true, le-leb}
-use Prim.Native.Nat.{ℕ}
+use borrow.Author.Tests.{leb-true, ltb-true, ltb-false, eqb-true, not-false, le-leb, lt-leb, lt-ltb}
+use lib.Dec.{leb, ltb}
+use Prim.Native.Nat.{ℕ, _≤_, _<_}
+use Rattle.rules.specs.Outcome.{good}
+use Rattle.rules.specs.Items.{All, all-cons}
 use Rattle.rules.specs.Packages.{Package, packageTime}
-use Rattle.rules.specs.Message.{Message}
-use Rattle.rules.specs.Sheet.{Row, grants}
+use Rattle.rules.specs.Message.{mostNanos, Message}
+use Rattle.rules.specs.Sheet.{Row, startOf, endOf, rowFits, row, sheet, grants}
 use Rattle.rules.specs.Copy.{granted}
-use Rattle.rules.specs.Claims.{InRanges, Some, here, there}
-use Rattle.rules.proofs.Outcomes.{both}
+use Rattle.rules.specs.Claims.{InRanges, Some, here, there, over}
+use Rattle.rules.proofs.Outcomes.{both, passed, good-inj}
+use Rattle.rules.proofs.Walk.{items-all}
+
+-- a time, with whatever else is asked, in one of two windows that meet, or in both joined
+meets : (also : Bool) (a b c t : ℕ) → a ≤ b → b ≤ c → (also && leb a t && ltb t b || (also && leb b t && ltb t c || false)) ≡ (also && leb a t && ltb t c || false)
+meets also a b c t l h = go (ltb t b) refl
+  where
+    early : (x y : Bool) → (x && y && true || (x && false && true || false)) ≡ (x && y && true || false)
+    early true true = refl
+    early true false = refl
+    early false y = refl
+
+    late : (x y : Bool) → (x && true && false || (x && true && y || false)) ≡ (x && true && y || false)
+    late true y = refl
+    late false y = refl
+
+    go : (y : Bool) → ltb t b ≡ y → (also && leb a t && y || (also && leb b t && ltb t c || false)) ≡ (also && leb a t && ltb t c || false)
+    go true e = rw (lt-leb b t (ltb-true t b e), lt-ltb t c (omega (arith, ltb-true t b e))) (early also (leb a t))
+    go false e = rw (le-leb b t (ltb-false t b e), le-leb a t (omega (arith, ltb-false t b e))) (late also (ltb t c))
 
 module _ (m : Message) (k : Package) where
+  abbrev time : ℕ
+  time = packageTime (m .seconds) (m .nanos) (k .delta)
+
   -- whether a row grants the package
   abbrev by : Row → Bool
-  by r = grants (m .id) (k .id) (packageTime (m .seconds) (m .nanos) (k .delta)) r
+  by r = grants (m .id) (k .id) time r
 
   in-ranges : (r : Row) → by r ≡ true → InRanges m k r
   unfolding grants
@@ -32,13 +56,13 @@ module _ (m : Message) (k : Package) where
         package-first = leb-true _ _ d;
         package-last = leb-true _ _ c;
         start = leb-true _ _ b;
-        end = leb-true _ _ a;
+        end = ltb-true _ _ a;
       }
 
   by-ranges : (r : Row) → InRanges m k r → by r ≡ true
   unfolding grants
   by-ranges r i =
-      rw (le-leb _ _ (i .message-first), le-leb _ _ (i .message-last), le-leb _ _ (i .package-first), le-leb _ _ (i .package-last), le-leb _ _ (i .start), le-leb _ _ (i .end))
+      rw (le-leb _ _ (i .message-first), le-leb _ _ (i .message-last), le-leb _ _ (i .package-first), le-leb _ _ (i .package-last), le-leb _ _ (i .start), lt-ltb _ _ (i .end))
 
   some-row : (rows : List Row) → granted rows m k ≡ true → Some (InRanges m k) rows
   unfolding granted
@@ -60,3 +84,55 @@ module _ (m : Message) (k : Package) where
 
   pub granted-exactly : (rows : List Row) → (granted rows m k ≡ true) ↔ Some (InRanges m k) rows
   granted-exactly rows = (λ e. some-row rows e, λ s. granted-by s)
+
+  -- the time of a package that is granted by rows none of which ends behind the seam, and by rows none of which starts before it
+  before : {rows : List Row} {seam : ℕ} → Some (InRanges m k) rows → All (λ (r : Row). endOf r ≤ seam) rows → time < seam
+  before (here i) (all-cons l a) = omega (arith, i .end)
+  before (there s) (all-cons l a) = before s a
+
+  behind : {rows : List Row} {seam : ℕ} → Some (InRanges m k) rows → All (λ (r : Row). seam ≤ startOf r) rows → seam ≤ time
+  behind (here i) (all-cons l a) = omega (arith, i .start)
+  behind (there s) (all-cons l a) = behind s a
+
+  pub seam-once : (rows rows′ : List Row) (seam : ℕ) → All (λ (r : Row). endOf r ≤ seam) rows → All (λ (r : Row). seam ≤ startOf r) rows′
+      → granted rows m k ≡ true → granted rows′ m k ≡ true → ⊥
+  seam-once rows rows′ seam ends starts e f = omega (arith, before (some-row rows e) ends, behind (some-row rows′ f) starts)
+
+  -- the ids of a package lie in a row's ranges
+  abbrev ids : Row → Bool
+  ids r = leb (r .firstMessage) (m .id) && leb (m .id) (r .lastMessage) && leb (r .firstPackage) (k .id) && leb (k .id) (r .lastPackage)
+
+  pub seam-whole : (r : Row) (a b c : ℕ) → a ≤ b → b ≤ c → granted (over a b r ∷ over b c r ∷ []) m k ≡ granted (over a c r ∷ []) m k
+  unfolding granted grants
+  seam-whole r a b c l h = meets (ids r) (startOf (over a b r)) (endOf (over a b r)) (endOf (over b c r)) time (omega arith) (omega arith)
+
+-- ---- every row of a sheet that passes starts before it ends
+
+-- what a row that keeps the rules says
+record Keeps (r : Row) : Type 0 where
+  messages : r .firstMessage ≤ r .lastMessage
+  packages : r .firstPackage ≤ r .lastPackage
+  start : r .startNanos ≤ mostNanos
+  end : r .endNanos ≤ mostNanos
+  window : startOf r < endOf r
+  spare : r .spare ≡ 0
+
+keeps : (r : Row) → rowFits r ≡ true → Keeps r
+unfolding rowFits
+keeps r e =
+    let (e, a) = both _ _ e in
+    let (e, b) = both _ _ e in
+    let (e, c) = both _ _ e in
+    let (e, d) = both _ _ e in
+    let (f, g) = both _ _ e in
+    record { messages = leb-true _ _ f; packages = leb-true _ _ g; start = leb-true _ _ d; end = leb-true _ _ c; window = ltb-true _ _ b; spare = eqb-true _ _ a }
+
+row-window : (p : ℕ) (s : List ℕ) (r : Row × ℕ) → row p s ≡ good r → startOf (r .0) < endOf (r .0)
+unfolding row
+row-window p s r e =
+    let (t, z) = passed _ _ _ _ e in
+    subst (λ (x : Row × ℕ). startOf (x .0) < endOf (x .0)) (good-inj z) (keeps _ (not-false _ t) .window)
+
+pub no-empty-window : (s : List ℕ) (rows : List Row) → sheet s ≡ good rows → All (λ (r : Row). startOf r < endOf r) rows
+unfolding sheet
+no-empty-window s rows e = items-all row row-window 0 0 s (passed _ _ _ _ e .1)

@@ -9,14 +9,14 @@ use lib.ListN.{length, getD, take, drop}
 use Rattle.rules.specs.Outcome.{good, bad, PACKAGE, ROOM}
 use Rattle.rules.specs.Bytes.{Bytes, part, join}
 use Rattle.rules.specs.Items.{items, All}
-use Rattle.rules.specs.Packages.{Package, packageFits, cut, packageOf, Fills, instant, packageTime}
+use Rattle.rules.specs.Packages.{Package, packageFits, cut, packageOf, Fills, packageTime}
 use Rattle.rules.specs.Message.{headerBytes, mostBytes, Head, head, payloadStart, payload, recordBits, checksOneToNine, Message, message, recording}
 use Rattle.rules.specs.Reading.{optionRun, MessageSpot, messageAt, checkedRecording}
 use Rattle.rules.specs.Walk.{PackageSpot, packageAt, dataAt, nextAt, Walks}
 use Rattle.rules.specs.Writer.{write, Draft, accepted, written, writer}
 use Rattle.rules.specs.Clean.{cleanForm, cleaner}
 use Rattle.rules.specs.Valid.{Valid, DraftFits}
-use Rattle.rules.specs.Sheet.{Row}
+use Rattle.rules.specs.Sheet.{Row, startOf, endOf, sheet}
 use Rattle.rules.specs.Copy.{granted, Entry, grantedPackages, released, count, copyMessage, copyMessages, copyBytes, releasedOf, measurement, copy, delivered}
 use Rattle.rules.specs.Table.{Table}
 use Rattle.rules.specs.Edges.{Edges}
@@ -142,14 +142,14 @@ WalkShowsAll = (s : List ℕ) → length s ≤ mostBytes → (pieces : List (Lis
 abbrev pub WalkStays : Type 0
 WalkStays = (s : List ℕ) (i : ℕ) → ((k : PackageSpot) → packageAt s i ≡ good (some k) → ⊥) → (nextAt s i ≡ i) × (dataAt s i ≡ [])
 
--- A package is granted exactly if message id, package id and package time all lie in the ranges of some row, ends included.
+-- A package is granted exactly if, in some row, message id and package id lie in the ranges, ends included, and package time in the window, start included and end not.
 pub record InRanges (m : Message) (k : Package) (r : Row) : Type 0 where
   pub message-first : r .firstMessage ≤ m .id
   pub message-last : m .id ≤ r .lastMessage
   pub package-first : r .firstPackage ≤ k .id
   pub package-last : k .id ≤ r .lastPackage
-  pub start : instant (r .startSeconds) (r .startNanos) ≤ packageTime (m .seconds) (m .nanos) (k .delta)
-  pub end : packageTime (m .seconds) (m .nanos) (k .delta) ≤ instant (r .endSeconds) (r .endNanos)
+  pub start : startOf r ≤ packageTime (m .seconds) (m .nanos) (k .delta)
+  pub end : packageTime (m .seconds) (m .nanos) (k .delta) < endOf r
 
 pub data Some {A : Type 0} (P : A → Type 0) : List A → Type 0 where
   here : {a : A} {l : List A} → P a → Some P (a ∷ l)
@@ -157,6 +157,23 @@ pub data Some {A : Type 0} (P : A → Type 0) : List A → Type 0 where
 
 abbrev pub GrantedExactly : Type 0
 GrantedExactly = (rows : List Row) (m : Message) (k : Package) → (granted rows m k ≡ true) ↔ Some (InRanges m k) rows
+
+-- Every row of a sheet that passes starts before it ends.
+abbrev pub NoEmptyWindow : Type 0
+NoEmptyWindow = (s : List ℕ) (rows : List Row) → sheet s ≡ good rows → All (λ (r : Row). startOf r < endOf r) rows
+
+-- Neighbouring orders never both grant a package: no row of the one ends behind the seam, and no row of the other starts before it.
+abbrev pub SeamOnce : Type 0
+SeamOnce = (rows rows′ : List Row) (seam : ℕ) → All (λ (r : Row). endOf r ≤ seam) rows → All (λ (r : Row). seam ≤ startOf r) rows′
+    → (m : Message) (k : Package) → granted rows m k ≡ true → granted rows′ m k ≡ true → ⊥
+
+-- Two rows that agree in all but time, the first ending where the second starts, grant together exactly what one row over both windows grants. The window
+-- of `over a b r` goes from a to b, in nanoseconds.
+abbrev pub over : ℕ → ℕ → Row → Row
+over start end r = record { firstMessage = r .firstMessage; lastMessage = r .lastMessage; firstPackage = r .firstPackage; lastPackage = r .lastPackage; startSeconds = start / 10 ^ 9; startNanos = start % 10 ^ 9; endSeconds = end / 10 ^ 9; endNanos = end % 10 ^ 9; spare = r .spare }
+
+abbrev pub SeamWhole : Type 0
+SeamWhole = (r : Row) (a b c : ℕ) → a ≤ b → b ≤ c → (m : Message) (k : Package) → granted (over a b r ∷ over b c r ∷ []) m k ≡ granted (over a c r ∷ []) m k
 
 -- Each bit of the randomizer's sequence behind the first eight is the exclusive-or of those 8, 5, 3 and 1 places before it.
 abbrev pub Recurrence : Type 0
@@ -269,7 +286,7 @@ pub record Claims : Type 1 where
   pub writing : WrittenRead × ReadWritten × PartsWritten × WriterWrites
   pub cleaning : CleanerWrites × CleanAlone × CleanTwice × CleanExactly
   pub measuring : MeasuredReleased × ((recording sheet : List ℕ) → MeasuredFirst recording sheet)
-  pub copying : GrantedExactly × ((rows : List Row) → ReleasedExactly rows) × SequenceCounted × CountsReleased × CopyRead × CopyNotLonger × CopyPlain
+  pub copying : GrantedExactly × NoEmptyWindow × SeamOnce × SeamWhole × ((rows : List Row) → ReleasedExactly rows) × SequenceCounted × CountsReleased × CopyRead × CopyNotLonger × CopyPlain
   pub bursts : Recurrence × BitPeriod × TableEntry × RandomizedTwice × RandomizedByte × BurstExactly
   pub silence : SameCopies × SameMeasurements × DifferentCopies
   pub outcomes : OneOutcome

@@ -1,4 +1,5 @@
--- Document 01, 'The order sheet': rows of 256 bits, most significant first; which rows keep the rules, and which packages a row grants.
+-- Document 01, 'The order sheet', with the windows of document 02, A4: rows of 256 bits, most significant first; which rows keep the rules, and
+-- which packages a row grants.
 use Prim.Native.Nat.{ℕ, zero, _+_, _-_, _*_, _/_, _%_, _^_}
 use mathlib.Core.Bool.{Bool, not, _&&_, _||_}
 use mathlib.Core.List.{List, [], _∷_, _++_}
@@ -46,12 +47,18 @@ rowOf n = record {
   spare = n % 2 ^ 4;
 }
 
--- in each pair first ≤ last and start ≤ end; nanoseconds within a second; spare bits zero
+-- when a row's window starts, and when it ends
+abbrev pub startOf : Row → ℕ
+startOf r = instant (r .startSeconds) (r .startNanos)
+
+abbrev pub endOf : Row → ℕ
+endOf r = instant (r .endSeconds) (r .endNanos)
+
+-- in each pair of ids first ≤ last; nanoseconds within a second; start < end; spare bits zero
 unfoldable pub rowFits : Row → Bool
 rowFits r =
     leb (r .firstMessage) (r .lastMessage) && leb (r .firstPackage) (r .lastPackage)
-    && leb (r .startNanos) mostNanos && leb (r .endNanos) mostNanos
-    && leb (instant (r .startSeconds) (r .startNanos)) (instant (r .endSeconds) (r .endNanos)) && eqb (r .spare) 0
+    && leb (r .startNanos) mostNanos && leb (r .endNanos) mostNanos && ltb (startOf r) (endOf r) && eqb (r .spare) 0
 
 -- the row at the start of s, which stands at place p; and how long it is
 unfoldable pub row : ℕ → List ℕ → Outcome (Row × ℕ)
@@ -77,9 +84,9 @@ unfoldable pub shownRows : Outcome (List Row × ℕ) → List Row × ℕ
 shownRows (good x) = x
 shownRows (bad n p) = (replicate mostRows (rowOf 0), 0)
 
--- message id, package id and package time all lie in the row's ranges, ends included
+-- message id and package id lie in the row's ranges, ends included, and package time in its window, start included and end not
 unfoldable pub grants : ℕ → ℕ → ℕ → Row → Bool
 grants messageId packageId time r =
     leb (r .firstMessage) messageId && leb messageId (r .lastMessage)
     && leb (r .firstPackage) packageId && leb packageId (r .lastPackage)
-    && leb (instant (r .startSeconds) (r .startNanos)) time && leb time (instant (r .endSeconds) (r .endNanos))
+    && leb (startOf r) time && ltb time (endOf r)

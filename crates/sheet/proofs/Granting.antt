@@ -3,12 +3,12 @@ use Prim.Native.Nat.{ℕ, _≤_, _<_}
 use mathlib.Core.Path.{_≡_, refl, ap}
 use mathlib.Core.Bool.{Bool, false, _||_}
 use mathlib.Core.List.{List, [], _∷_, map}
-use lib.Dec.{leb}
+use lib.Dec.{ltb}
 use borrow.Author.Tests.{le-leb, lt-leb}
-use Rattle.rules.specs.Packages.{Package, instant, packageTime}
+use Rattle.rules.specs.Packages.{Package, packageTime}
 use Rattle.rules.specs.Message.{Message}
 use Rattle.rules.specs.Sheet as rules
-use Rattle.rules.specs.Sheet.{grants}
+use Rattle.rules.specs.Sheet.{startOf, endOf, grants}
 use Rattle.rules.specs.Copy.{granted}
 use Rattle.sheet.specs.declared.Row.{Row}
 use Rattle.sheet.specs.Rows.{rowIn, someGrants}
@@ -31,14 +31,14 @@ module _ (r : rules.Row) (m p t : ℕ) where
   above-package a b c d = rw (le-leb _ _ a, le-leb _ _ b, le-leb _ _ c, lt-leb _ _ d)
 
   pub by-start : r .firstMessage ≤ m → m ≤ r .lastMessage → r .firstPackage ≤ p → p ≤ r .lastPackage
-      → t < instant (r .startSeconds) (r .startNanos) → false ≡ grants m p t r
+      → t < startOf r → false ≡ grants m p t r
   unfolding grants
-  by-start a b c d e = rw (le-leb _ _ a, le-leb _ _ b, le-leb _ _ c, le-leb _ _ d, lt-leb (instant (r .startSeconds) (r .startNanos)) t e)
+  by-start a b c d e = rw (le-leb _ _ a, le-leb _ _ b, le-leb _ _ c, le-leb _ _ d, lt-leb (startOf r) t e)
 
   pub by-end : r .firstMessage ≤ m → m ≤ r .lastMessage → r .firstPackage ≤ p → p ≤ r .lastPackage
-      → instant (r .startSeconds) (r .startNanos) ≤ t → leb t (instant (r .endSeconds) (r .endNanos)) ≡ grants m p t r
+      → startOf r ≤ t → ltb t (endOf r) ≡ grants m p t r
   unfolding grants
-  by-end a b c d e = rw (le-leb _ _ a, le-leb _ _ b, le-leb _ _ c, le-leb _ _ d, le-leb (instant (r .startSeconds) (r .startNanos)) t e)
+  by-end a b c d e = rw (le-leb _ _ a, le-leb _ _ b, le-leb _ _ c, le-leb _ _ d, le-leb (startOf r) t e)
 
 -- the search is the rules'
 pub search-is : (rs : List Row) (m : Message) (p : Package) → granted (map rowIn rs) m p ≡ someGrants rs (m .id) (p .id) (packageTime (m .seconds) (m .nanos) (p .delta))

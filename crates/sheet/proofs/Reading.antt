@@ -4,7 +4,7 @@ use mathlib.Core.Path.{_≡_, refl, sym, ap, _∙_}
 use mathlib.Core.Bool.{Bool, true, false, not, _&&_}
 use mathlib.Core.List.{List, [], _∷_, _++_, map, append-assoc}
 use native.Mathlib.Omega.{arith}
-use lib.Dec.{leb}
+use lib.Dec.{ltb}
 use lib.ListN.{length, take, drop, set, replicate, length-drop}
 use lib.Seq.{take-all, set-at}
 use borrow.Author.Tests.{le-leb, lt-leb, lt-ltb, le-ltb, ne-eqb}
@@ -12,8 +12,7 @@ use native.Mathlib.Numerals.{add-one}
 use Rattle.rules.specs.Outcome.{good, bad, ROW}
 use Rattle.rules.specs.Bytes.{Bytes, word}
 use Rattle.rules.specs.Sheet as rules
-use Rattle.rules.specs.Sheet.{bigEndian, rowOf, rowFits, sheetRows, shownRows}
-use Rattle.rules.specs.Packages.{instant}
+use Rattle.rules.specs.Sheet.{bigEndian, rowOf, startOf, endOf, rowFits, sheetRows, shownRows}
 use Rattle.rules.proofs.Outcomes.{pass, halt, step, stop}
 use Rattle.rules.proofs.Growing.{map-append}
 use Rattle.rules.proofs.Loops.{Doing, doing-start, doing-next, doing-end, doing-bad}
@@ -52,10 +51,10 @@ module _ (r : Row) where
     end-long c d = rw (le-leb _ _ a, le-leb _ _ b, le-leb (r .start .nanos) 999999999 c, lt-leb (r .end .nanos) 999999999 d)
 
     pub in-order : r .start .nanos ≤ 999999999 → r .end .nanos ≤ 999999999
-        → leb (instant (r .start .seconds) (r .start .nanos)) (instant (r .end .seconds) (r .end .nanos)) ≡ rowFits (rowIn r)
+        → ltb (startOf (rowIn r)) (endOf (rowIn r)) ≡ rowFits (rowIn r)
     unfolding rowFits
     in-order c d = rw (le-leb _ _ a, le-leb _ _ b, le-leb (r .start .nanos) 999999999 c, le-leb (r .end .nanos) 999999999 d)
-        (and-yes (leb (instant (r .start .seconds) (r .start .nanos)) (instant (r .end .seconds) (r .end .nanos))))
+        (and-yes (ltb (startOf (rowIn r)) (endOf (rowIn r))))
 
 -- spare bits are zero
 spared : (r : rules.Row) → (r .spare ≡ 0 → ⊥) → rowFits r ≡ false

@@ -77,7 +77,7 @@ fn fits(row: Row) -> bool
     if 999_999_999 < end.nanos {
         return false;
     }
-    nanos_of(start) <= nanos_of(end)
+    nanos_of(start) < nanos_of(end)
 }
 
 enum RowRead {
@@ -178,7 +178,7 @@ pub fn read_sheet(s: &[u8]) -> SheetRead
     }
 }
 
-// Whether a row grants a package of message m with this id and time.
+// Whether a row grants a package of message m with this id and time. Both ends of a range of ids are included, the end of the window is not.
 pub fn grants(row: Row, m: Mdid, p: Pdid, t: u64) -> bool
     ensures { λ r. ⌜ r ≡ grants (m .0) (p .0) t (rowIn row) ⌝ }
 {
@@ -199,7 +199,7 @@ pub fn grants(row: Row, m: Mdid, p: Pdid, t: u64) -> bool
         return false;
     }
     let end = row.end;
-    t <= nanos_of(end)
+    t < nanos_of(end)
 }
 
 // Whether some row of the sheet grants it.

@@ -66,12 +66,12 @@ fn two_rows(last: u8) {
     crate::end();
 }
 
-// Whether one of the first `count` rows of R's sheet grants package 1 of a message at 100 s.
-fn granted(count: usize, message: u32) {
+// Whether one of the first `count` rows of R's sheet grants package 1 of a message, at a time in nanoseconds.
+fn granted(count: usize, message: u32, time: u64) {
     let r = row_r();
     let read = sheet::read_sheet(&r[0..32]);
     let rows = read.rows;
-    let yes = sheet::in_sheet(rows, count, Mdid(message), Pdid(1), 100_000_000_000);
+    let yes = sheet::in_sheet(rows, count, Mdid(message), Pdid(1), time);
     crate::number(if yes { 1 } else { 0 });
     crate::end();
 }
@@ -120,10 +120,14 @@ pub fn releasing() {
     two_rows(0x00);
     two_rows(0x01);
     // R's sheet has one row: none of no rows grants, and above 32 all rows are asked.
-    granted(0, 7);
-    granted(1, 7);
-    granted(33, 7);
-    granted(33, 8);
+    granted(0, 7, 100_000_000_000);
+    granted(1, 7, 100_000_000_000);
+    granted(33, 7, 100_000_000_000);
+    granted(33, 8, 100_000_000_000);
+    // Its window starts at 100 s and ends at 101 s, which is left out.
+    granted(1, 7, 99_999_999_999);
+    granted(1, 7, 100_999_999_999);
+    granted(1, 7, 101_000_000_000);
     // P1 and P10, measured and written; a buffer of 44 bytes keeps its last four, and one of 39 is ROOM, 40, for writing alone.
     under_r(0, 32, 44);
     under_r(56, 32, 44);

@@ -5,9 +5,12 @@ use crate::copy::{self, Copied};
 use crate::damage::damaged;
 use crate::dice::Dice;
 use crate::generate::{lay_all, messages, World};
-use crate::orders::{bad_sheet, everything, pack_sheet, rows, targets};
+use crate::orders::*;
 use crate::paper::{message_m, row_r};
+use crate::parse::read_recording;
 use crate::refusal::*;
+use crate::seams::Seam;
+use crate::sheet::{read_sheet, Row};
 
 #[test]
 fn m_under_r_is_measured_before_it_is_written() {
@@ -61,4 +64,97 @@ fn what_was_measured_is_what_is_written() {
         }
     }
     assert!(refusals > 200 && copies > 200, "{refusals} refusals, {copies} copies");
+}
+
+#[test]
+fn a_window_has_its_start_and_not_its_end() {
+    let package_2 = Row { package_first: 2, package_last: 2, ..everything() };
+    let at = |nanoseconds: u64| 100_000_000_000 + nanoseconds;
+    for (start, end, packages) in [(10, 11, 1), (9, 10, 0), (11, 12, 0), (0, 11, 1), (10, 12, 1)] {
+        let sheet = pack_sheet(&[with_window(package_2, at(start), at(end))]);
+        let measured = copy::measure(&message_m(), &sheet).unwrap();
+        assert_eq!(measured.packages, packages, "from {start} to {end}");
+    }
+}
+
+#[test]
+fn id_ranges_keep_both_their_ends() {
+    let row = |message: (u32, u32), package: (u32, u32)| Row {
+        message_first: message.0,
+        message_last: message.1,
+        package_first: package.0,
+        package_last: package.1,
+        ..everything()
+    };
+    for (message, package, packages) in
+        [((7, 7), (2, 2), 1), ((0, 7), (0, 1), 1), ((7, 9), (1, 2), 2), ((0, 6), (0, 9), 0)]
+    {
+        let sheet = pack_sheet(&[row(message, package)]);
+        assert_eq!(copy::measure(&message_m(), &sheet).unwrap().packages, packages);
+    }
+}
+
+#[test]
+fn a_window_without_a_moment_is_a_bad_row() {
+    let none = with_window(everything(), 5_000_000_007, 5_000_000_007);
+    assert_eq!(read_sheet(&pack_row(&none, 0)), refused(ROW, 0));
+    assert_eq!(read_sheet(&[0; 32]), refused(ROW, 0));
+    assert_eq!(read_sheet(&pack_sheet(&[everything(), none])), refused(ROW, 32));
+    let one = with_window(everything(), 5_000_000_007, 5_000_000_008);
+    assert_eq!(read_sheet(&pack_row(&one, 0)), Ok(vec![one]));
+    // Compared as times and not pair by pair.
+    let across = with_window(everything(), 999_999_999, 1_000_000_000);
+    assert_eq!(read_sheet(&pack_row(&across, 0)), Ok(vec![across]));
+}
+
+/// No end of a window is later, so no row grants the latest time.
+#[test]
+fn the_latest_time_is_granted_by_no_row() {
+    let latest = super::m_with(16, "FFFFFFFF 3B9AC9FF");
+    let sheet = pack_sheet(&[everything()]);
+    assert_eq!(copy::measure(&latest, &sheet).unwrap().packages, 0);
+    let just_before = super::m_with(16, "FFFFFFFF 3B9AC9FE");
+    assert_eq!(copy::measure(&just_before, &sheet).unwrap().packages, 1);
+}
+
+/// The packages that a copy releases, by their first four data bytes.
+fn released(seam: &Seam, rows: &[Row]) -> Vec<u32> {
+    let recording = lay_all(&seam.messages).0;
+    let mut out = vec![0; recording.len()];
+    let copied = copy::write(&recording, &pack_sheet(rows), &mut out).unwrap();
+    let messages = read_recording(&out[..copied.bytes]).unwrap();
+    let packages = messages.iter().flat_map(|placed| &placed.message.packages);
+    packages.map(|package| u32::from_be_bytes(package.data[..4].try_into().unwrap())).collect()
+}
+
+#[test]
+fn a_package_on_the_seam_is_delivered_once() {
+    let mut on_the_seam = 0;
+    for case in 0..1_000 {
+        let dice = &mut Dice::new(22, case);
+        let seam = Seam::new(dice);
+        let (first, second) = (released(&seam, &seam.first()), released(&seam, &seam.second()));
+        let whole = released(&seam, &seam.whole());
+        assert_eq!(released(&seam, &seam.both(dice)), whole, "case {case}");
+        assert_eq!(first.len() + second.len(), whole.len(), "case {case}");
+        let times = seam.times();
+        let at_seam = |number: &&u32| times[**number as usize] == seam.seam;
+        assert_eq!(first.iter().filter(at_seam).count(), 0, "case {case}");
+        on_the_seam += second.iter().filter(at_seam).count();
+        assert!(whole.iter().all(|number| first.contains(number) != second.contains(number)));
+    }
+    assert!(on_the_seam > 500, "{on_the_seam}");
+}
+
+/// Every kind of bad row is bad, and good rows are good.
+#[test]
+fn rows_are_made_good_or_bad() {
+    for case in 0..2_000 {
+        let dice = &mut Dice::new(23, case);
+        let row = any_row(dice);
+        assert_eq!(read_sheet(&pack_row(&row, 0)), Ok(vec![row]), "case {case}");
+        for way in 0..BAD_ROWS {
+            assert_eq!(read_sheet(&bad_row(dice, way)), refused(ROW, 0), "case {case}, {way}");
+        }
+    }
 }
