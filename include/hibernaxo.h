@@ -46,7 +46,7 @@ enum hibernaxo_refusal {
 #define HIBERNAXO_CHECK_VALUES 3
 #define HIBERNAXO_WRITE_VALUES 2
 #define HIBERNAXO_CLEAN_VALUES 2
-#define HIBERNAXO_SHEET_VALUES 258
+#define HIBERNAXO_SHEET_VALUES 290
 #define HIBERNAXO_COPY_MEASURE_VALUES 4
 #define HIBERNAXO_COPY_WRITE_VALUES 4
 #define HIBERNAXO_RANDOMIZE_VALUES 1
@@ -54,7 +54,7 @@ enum hibernaxo_refusal {
 
 /* The most rows of a sheet, and how many values each row has. */
 #define HIBERNAXO_ROWS 32
-#define HIBERNAXO_ROW_VALUES 8
+#define HIBERNAXO_ROW_VALUES 9
 
 /* Reads the header of the message at the start of bytes (refusals 12 and 1 to 7).
  * values: [1] the option word count W, [2] flag bits 7 to 0, [3] message id, [4] sequence number, [5] length,
@@ -82,9 +82,9 @@ uint32_t hibernaxo_write(uint8_t flags, uint32_t message_id, uint32_t sequence, 
 uint32_t hibernaxo_clean(const uint8_t *bytes, size_t bytes_length, uint8_t *out, size_t out_length,
                          uint64_t values[HIBERNAXO_CLEAN_VALUES]);
 
-/* Reads an order sheet (refusal 11). values: [1] how many rows it has; then from [2] on eight values for each of 32
+/* Reads an order sheet (refusal 11). values: [1] how many rows it has; then from [2] on nine values for each of 32
  * rows, zero behind the last: first and last message id, first and last package id, start seconds, start nanoseconds,
- * end seconds, end nanoseconds. */
+ * end seconds, end nanoseconds, and 1 where the row grants acquired data only, nothing in simulated messages. */
 uint32_t hibernaxo_sheet(const uint8_t *sheet, size_t sheet_length, uint64_t values[HIBERNAXO_SHEET_VALUES]);
 
 /* Measures the copy of a recording under an order sheet, and writes nothing (refusals 11, 12 and 1 to 10).

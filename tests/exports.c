@@ -28,6 +28,7 @@ static const char PACKAGES[] = "00000001 000D0000 00000000 AA112233 00000002 001
 static const char CLEAN[] = "10000080 00000007 00000005 00000038 00000064 00000000"
                             "00000001 000D0000 00000000 AA000000 00000002 00100000 0000000A DEADBEEF";
 static const char R[] = "00000007 00000007 00000001 00000001 00000064 00000000 00000194 00000000";
+static const char ACQUIRED_R[] = "00000007 00000007 00000001 00000001 00000064 00000000 00000194 00000001";
 static const char P10[] = "100000C0 00000007 00000000 00000028 00000064 00000000 00000001 000D0000 00000000 AA000000";
 static const char MARKER[] = "0347 76C7 2728 95B0";
 
@@ -361,10 +362,13 @@ static_assert(2 + HIBERNAXO_ROWS * HIBERNAXO_ROW_VALUES == HIBERNAXO_SHEET_VALUE
 static void sheets(void)
 {
     uint64_t wanted[HIBERNAXO_SHEET_VALUES] = {0, HIBERNAXO_ROWS};
-    static const uint64_t row[HIBERNAXO_ROW_VALUES] = {7, 7, 1, 1, 100, 0, 101, 0};
+    static const uint64_t row[HIBERNAXO_ROW_VALUES] = {7, 7, 1, 1, 100, 0, 101, 0, 0};
     struct lent sheet = input(R); /* P9 */
     CALL(hibernaxo_sheet, sheet.bytes, sheet.length, values(HIBERNAXO_SHEET_VALUES));
-    EXPECT(HIBERNAXO_OK, 0, 1, 7, 7, 1, 1, 100, 0, 101, 0);
+    EXPECT(HIBERNAXO_OK, 0, 1, 7, 7, 1, 1, 100, 0, 101, 0, 0);
+    sheet = input(ACQUIRED_R); /* R for acquired data only */
+    CALL(hibernaxo_sheet, sheet.bytes, sheet.length, values(HIBERNAXO_SHEET_VALUES));
+    EXPECT(HIBERNAXO_OK, 0, 1, 7, 7, 1, 1, 100, 0, 101, 0, 1);
     /* as many rows as a sheet may have, each R */
     sheet = lend(32 * HIBERNAXO_ROWS, 0);
     for (size_t k = 0; k < HIBERNAXO_ROWS; k++) {
@@ -416,6 +420,16 @@ static void copies(void)
     EXPECT(HIBERNAXO_OK, 0, 0, 0, 0);
     CALL(hibernaxo_copy_write, s.bytes, s.length, s.bytes, s.length, out.bytes, out.length, values(HIBERNAXO_COPY_WRITE_VALUES));
     EXPECT(HIBERNAXO_ROW, 56);
+    KEPT(out);
+    /* M, and M with flag bit 3, under R for acquired data only */
+    sheet = input(ACQUIRED_R);
+    CALL(hibernaxo_copy_measure, s.bytes, s.length, sheet.bytes, sheet.length, values(HIBERNAXO_COPY_MEASURE_VALUES));
+    EXPECT(HIBERNAXO_OK, 0, 40, 1, 1);
+    s = m_with(3, "88");
+    CALL(hibernaxo_copy_measure, s.bytes, s.length, sheet.bytes, sheet.length, values(HIBERNAXO_COPY_MEASURE_VALUES));
+    EXPECT(HIBERNAXO_OK, 0, 0, 0, 0);
+    CALL(hibernaxo_copy_write, s.bytes, s.length, sheet.bytes, sheet.length, out.bytes, out.length, values(HIBERNAXO_COPY_WRITE_VALUES));
+    EXPECT(HIBERNAXO_OK, 0, 0, 0, 0);
     KEPT(out);
 }
 

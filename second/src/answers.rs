@@ -97,7 +97,7 @@ pub fn clean(bytes: &[u8], out: &mut [u8]) -> Answer<2> {
     }
 }
 
-pub fn sheet(bytes: &[u8]) -> Answer<258> {
+pub fn sheet(bytes: &[u8]) -> Answer<290> {
     match sheet::read_sheet(bytes) {
         Ok(rows) => {
             let mut told = vec![rows.len()];
@@ -111,6 +111,7 @@ pub fn sheet(bytes: &[u8]) -> Answer<258> {
                     row.start_nanoseconds,
                     row.end_seconds,
                     row.end_nanoseconds,
+                    row.acquired_only.into(),
                 ];
                 told.extend(fields.map(|field| field as usize));
             }

@@ -15,16 +15,17 @@ use crate::{copy, demand, measuring, releases, render, round_trips, side_by_side
 type Case = fn(&mut Judge, &mut Dice);
 
 /// The kinds of cases and how many of each there are in a hundred.
-const KINDS: [(u64, Case); 14] = [
+const KINDS: [(u64, Case); 15] = [
     (9, header_case),
-    (9, package_case),
+    (8, package_case),
     (9, check_case),
-    (12, write_case),
-    (9, clean_case),
+    (11, write_case),
+    (8, clean_case),
     (7, sheet_case),
     (12, copy_case),
     (4, measuring_case),
     (3, seam_case),
+    (3, acquired_case),
     (2, randomize_case),
     (4, open_burst_case),
     (9, demand::withheld_case),
@@ -255,6 +256,15 @@ fn seam_case(judge: &mut Judge, dice: &mut Dice) {
     judge.kind("neighbouring windows");
     let seam = Seam::new(dice);
     releases::neighbours(judge, dice, &seam);
+}
+
+fn acquired_case(judge: &mut Judge, dice: &mut Dice) {
+    judge.kind("acquired data only");
+    let world = World::new(dice);
+    let messages = messages(dice, &world);
+    let mut rows = rows(dice, &targets(&messages));
+    rows.truncate(16);
+    releases::acquired(judge, dice, &messages, &rows);
 }
 
 fn randomize_case(judge: &mut Judge, dice: &mut Dice) {

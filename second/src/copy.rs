@@ -36,7 +36,7 @@ pub fn released_list<'a>(recording: &[Placed<'a>], rows: &[Row]) -> Vec<Entry<'a
 fn entry_of<'a>(message: &Message<'a>, rows: &[Row]) -> Option<Entry<'a>> {
     let is_granted = |package: &&Package| {
         let time = package_time(message.seconds, message.nanoseconds, package.delta);
-        granted(rows, message.message_id, package.id, time)
+        granted(rows, message.message_id, package.id, time, message.simulated())
     };
     let packages: Vec<Package> = message.packages.iter().filter(is_granted).cloned().collect();
     (!packages.is_empty()).then_some(Entry {

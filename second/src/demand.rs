@@ -8,15 +8,16 @@ use crate::judge::{dump, Judge};
 use crate::lent::room_for;
 use crate::measuring;
 use crate::orders::{pack_sheet, row_around, rows, targets};
-use crate::parse::{check, package_time, read_recording};
+use crate::parse::{check, package_time, read_recording, SIMULATED_FLAG};
 use crate::sheet::{granted, Row};
 use crate::side_by_side;
 
 /// What two recordings differ in that have equal released lists.
-pub const WITHHELD: [(&str, Withhold); 12] = [
+pub const WITHHELD: [(&str, Withhold); 13] = [
     ("withheld packages' content", change_withheld_packages),
     ("number of withheld packages", change_withheld_number),
     ("whole withheld messages", change_withheld_messages),
+    ("simulated messages where only acquired ones are granted", change_simulated_messages),
     ("padding", change_padding),
     ("packages' reserved bytes", change_reserved_bytes),
     ("options", change_options),
@@ -96,7 +97,8 @@ impl Scene {
 
     fn grants(&self, message: &DirtyMessage, package: &DirtyPackage) -> bool {
         let time = package_time(message.seconds, message.nanoseconds, package.delta);
-        granted(&self.rows, message.message_id, package.id, time)
+        let simulated = message.flags & SIMULATED_FLAG != 0;
+        granted(&self.rows, message.message_id, package.id, time, simulated)
     }
 
     /// Has this message no granted package?
@@ -181,6 +183,20 @@ fn withheld_message(dice: &mut Dice, scene: &Scene) -> Option<DirtyMessage> {
         }
     }
     None
+}
+
+/// Puts simulated twins beside messages, where they are withheld.
+fn change_simulated_messages(dice: &mut Dice, scene: &Scene) -> Vec<DirtyMessage> {
+    let mut messages = Vec::new();
+    for message in &scene.messages {
+        let flags = message.flags | SIMULATED_FLAG;
+        let twin = DirtyMessage { flags, ..message.clone() };
+        if dice.chance(1, 2) && !scene.withholds(message) && scene.withholds(&twin) {
+            messages.push(twin);
+        }
+        messages.push(message.clone());
+    }
+    messages
 }
 
 /// Changes every message in one way.

@@ -118,7 +118,7 @@ pub fn clean(bytes: &mut [u8], out: &mut [u8]) -> Given<2> {
     })
 }
 
-pub fn sheet(sheet: &mut [u8]) -> Given<258> {
+pub fn sheet(sheet: &mut [u8]) -> Given<290> {
     call(|values| unsafe { raw::hibernaxo_sheet(sheet.as_mut_ptr(), sheet.len(), values) })
 }
 

@@ -11,7 +11,7 @@ use crate::judge::Judge;
 use crate::measuring::measured_then_written;
 use crate::orders::*;
 use crate::paper::{m_with, m_with_options, message_m, row_r};
-use crate::releases::neighbours;
+use crate::releases::{acquired, neighbours, set_simulated};
 use crate::round_trips::{trip, TRIPS};
 use crate::seams::Seam;
 use crate::sheet::Row;
@@ -20,7 +20,7 @@ use crate::side_by_side;
 type Part = fn(&mut Limits);
 
 /// The parts in their order.
-const PARTS: [(&str, Part); 15] = [
+const PARTS: [(&str, Part); 16] = [
     ("the paper's numbers", paper_numbers),
     ("sizes", sizes),
     ("faults", faults),
@@ -30,6 +30,7 @@ const PARTS: [(&str, Part); 15] = [
     ("sheets", sheets),
     ("grants", grants),
     ("neighbouring windows", neighbouring_windows),
+    ("acquired data only", acquired_only),
     ("the copy's order", copy_order),
     ("measuring", measuring),
     ("sequence numbers", sequence_numbers),
@@ -153,8 +154,11 @@ fn paper_numbers(limits: &mut Limits) {
     for room in 38..=42 {
         limits.copy(&m, &r, room);
     }
+    // R with its lowest bit set.
+    let acquired = [&r[..31], &[1]].concat();
     for flags in 0..=255 {
         limits.message(&m_with(3, &[flags]));
+        limits.copy(&m_with(3, &[flags]), &acquired, 56);
     }
     for end in [9, 10, 11] {
         let row = Row { end_seconds: 100, end_nanoseconds: end, ..package_2_of_m() };
@@ -399,6 +403,13 @@ fn sheets(limits: &mut Limits) {
         sheet[bit / 8] ^= 0x80 >> (bit % 8);
         limits.sheet(&sheet);
     }
+    // All spare bits, in the first row and in the last.
+    for spare in 0..16 {
+        let row = pack_row(&everything(), spare);
+        limits.sheet(&row);
+        limits.copy(&message_m(), &row, 56);
+        limits.sheet(&[&good[..31 * 32], &row].concat());
+    }
     // Start and end are compared as times, not pair by pair.
     let across =
         Row { start_seconds: 5, start_nanoseconds: 999_999_999, end_seconds: 6, ..Row::default() };
@@ -439,6 +450,11 @@ fn grants(limits: &mut Limits) {
         limits.copy(&recording, &pack_row(&everything(), 0), recording.len());
         limits.copy(&recording, &pack_row(&Row::default(), 0), recording.len());
         limits.copy(&recording, &pack_row(&first_moment(), 0), recording.len());
+        // Each row is judged by itself.
+        let acquired = Row { acquired_only: true, ..everything() };
+        for rows in [&[acquired][..], &[acquired, everything()], &[everything(), acquired]] {
+            limits.copy(&recording, &pack_sheet(rows), recording.len());
+        }
         for _ in 0..60 {
             let row = row_near(&mut limits.dice, target);
             limits.copy(&recording, &pack_row(&row, 0), recording.len());
@@ -479,9 +495,29 @@ fn neighbouring_windows(limits: &mut Limits) {
     }
 }
 
+/// Acquired and simulated messages beside each other, under rows of every sort.
+fn acquired_only(limits: &mut Limits) {
+    let world = World::new(&mut limits.dice);
+    for simulated in [[false, false], [false, true], [true, false], [true, true]] {
+        for _ in 0..10 {
+            let mut messages = Vec::new();
+            for simulated in simulated {
+                let mut one = message(&mut limits.dice, &world, 2);
+                set_simulated(&mut one, simulated);
+                messages.push(one);
+            }
+            let mut rows = rows(&mut limits.dice, &targets(&messages));
+            rows.truncate(15);
+            rows.push(everything());
+            limits.next("acquired data only");
+            acquired(limits.judge, &mut limits.dice, &messages, &rows);
+        }
+    }
+}
+
 /// ROW before LARGE, LARGE before the messages, the messages before ROOM.
 fn copy_order(limits: &mut Limits) {
-    let bad_row = pack_row(&everything(), 1);
+    let bad_row = pack_row(&everything(), 2);
     let bad_size = vec![0; 33];
     let all = pack_sheet(&[everything()]);
     let large = vec![0; 65_537];

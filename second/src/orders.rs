@@ -3,14 +3,14 @@
 
 use crate::dice::Dice;
 use crate::generate::DirtyMessage;
-use crate::parse::package_time;
+use crate::parse::{package_time, SIMULATED_FLAG};
 use crate::sheet::Row;
 
 /// The latest time that a row can name, in nanoseconds; none can grant it.
 pub const LATEST: u64 = 4_294_967_295_999_999_999;
 
 /// How many kinds of bad row there are.
-pub const BAD_ROWS: usize = 12;
+pub const BAD_ROWS: usize = 11;
 
 /// A package that a row may aim at.
 #[derive(Clone, Copy, Debug)]
@@ -18,6 +18,7 @@ pub struct Target {
     pub message_id: u32,
     pub package_id: u32,
     pub time: u64,
+    pub simulated: bool,
 }
 
 pub fn targets(messages: &[DirtyMessage]) -> Vec<Target> {
@@ -28,6 +29,7 @@ pub fn targets(messages: &[DirtyMessage]) -> Vec<Target> {
                 message_id: message.message_id,
                 package_id: package.id,
                 time: package_time(message.seconds, message.nanoseconds, package.delta),
+                simulated: message.flags & SIMULATED_FLAG != 0,
             });
         }
     }
@@ -45,7 +47,7 @@ fn pack_bits(fields: &[(u32, u32)]) -> Vec<u8> {
     bits.chunks(8).map(|eight| eight.iter().fold(0, |byte, bit| byte << 1 | *bit as u8)).collect()
 }
 
-/// The 32 bytes of a row with these spare bits.
+/// The 32 bytes of a row with these spare bits besides its own.
 pub fn pack_row(row: &Row, spare: u32) -> Vec<u8> {
     pack_bits(&[
         (row.message_first, 32),
@@ -56,7 +58,7 @@ pub fn pack_row(row: &Row, spare: u32) -> Vec<u8> {
         (row.start_nanoseconds, 30),
         (row.end_seconds, 32),
         (row.end_nanoseconds, 30),
-        (spare, 4),
+        (spare | u32::from(row.acquired_only), 4),
     ])
 }
 
@@ -89,7 +91,7 @@ pub fn row_near(dice: &mut Dice, target: Target) -> Row {
     let message = range_near(dice, target.message_id.into(), ids, miss == 0);
     let package = range_near(dice, target.package_id.into(), ids, miss == 1);
     let time = range_near(dice, target.time, LATEST - 1, miss == 2);
-    row_of(message, package, time)
+    Row { acquired_only: dice.chance(1, 4), ..row_of(message, package, time) }
 }
 
 /// A row that surely holds this target, if any row can.
@@ -98,7 +100,8 @@ pub fn row_around(dice: &mut Dice, target: Target) -> Row {
     let message = range_near(dice, target.message_id.into(), ids, false);
     let package = range_near(dice, target.package_id.into(), ids, false);
     let time = range_near(dice, target.time, LATEST - 1, false);
-    row_of(message, package, time)
+    let acquired_only = !target.simulated && dice.chance(1, 4);
+    Row { acquired_only, ..row_of(message, package, time) }
 }
 
 /// A row of these ranges, which have both their ends; the row's window ends
@@ -142,6 +145,7 @@ pub fn any_row(dice: &mut Dice) -> Row {
         message_id: dice.edge(),
         package_id: dice.edge(),
         time: dice.throw() % (LATEST + 1),
+        simulated: dice.chance(1, 2),
     };
     row_near(dice, target)
 }
@@ -173,10 +177,11 @@ pub fn rows(dice: &mut Dice, targets: &[Target]) -> Vec<Row> {
 fn last_alone(dice: &mut Dice, targets: &[Target], count: usize) -> Vec<Row> {
     let count = dice.pick(&[count, 32]);
     let target = dice.pick(targets);
+    let Target { message_id, package_id, time, simulated } = target;
     let mut rows = Vec::new();
     while rows.len() + 1 < count {
         let row = any_row(dice);
-        if !row.grants(target.message_id, target.package_id, target.time) {
+        if !row.grants(message_id, package_id, time, simulated) {
             rows.push(row);
         }
     }
@@ -215,14 +220,15 @@ pub fn bad_row(dice: &mut Dice, way: usize) -> Vec<u8> {
             row.start_nanoseconds = too_late;
         }
         5 => row.end_nanoseconds = too_late,
-        6..=9 => spare = 1 << (way - 6),
-        10 => {
+        // The lowest spare bit is a good one.
+        6..=8 => spare = 2 << (way - 6),
+        9 => {
             // A window without a moment.
             row.end_seconds = row.start_seconds;
             row.end_nanoseconds = row.start_nanoseconds;
         }
         _ => {
-            spare = 1 + dice.below(15) as u32;
+            spare = dice.within(2, 15) as u32;
             row.end_nanoseconds = too_late;
             row.package_first = row.package_last.max(1);
             row.package_last = row.package_first - 1;

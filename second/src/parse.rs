@@ -13,6 +13,7 @@ pub const RECORD_FLAGS: u8 = 0b0100_1111;
 pub const STANDARD_FLAG: u8 = 0b1000_0000;
 pub const PLAYBACK_FLAG: u8 = 0b0100_0000;
 pub const FRAGMENT_FLAGS: u8 = 0b0011_0000;
+pub const SIMULATED_FLAG: u8 = 0b0000_1000;
 
 /// What reading a header alone tells.
 #[derive(Clone, Debug, PartialEq, Eq)]
@@ -58,6 +59,12 @@ pub struct Message<'a> {
     pub nanoseconds: u32,
     pub option_run: &'a [u8],
     pub packages: Vec<Package<'a>>,
+}
+
+impl Message<'_> {
+    pub fn simulated(&self) -> bool {
+        self.flags & SIMULATED_FLAG != 0
+    }
 }
 
 /// A message record and where it was found.

@@ -1,10 +1,11 @@
 //! What sheets release beside each other, asked of the exports directly.
 
 use crate::dice::Dice;
-use crate::generate::lay_all;
+use crate::generate::{lay_all, DirtyMessage};
 use crate::judge::{dump, Judge};
 use crate::orders::pack_sheet;
-use crate::parse::read_recording;
+use crate::parse::{read_recording, SIMULATED_FLAG};
+use crate::refusal::MOST_BYTES;
 use crate::seams::Seam;
 use crate::sheet::Row;
 use crate::side_by_side;
@@ -58,4 +59,46 @@ pub fn neighbours(judge: &mut Judge, dice: &mut Dice, seam: &Seam) {
     // What is on the seam is in the second window.
     let sides = within(&first, seam.start..seam.seam) && within(&second, seam.seam..seam.end);
     judge.claim(sides, || format!("  {first:?} and {second:?} of the times {times:?}\n"));
+}
+
+pub fn set_simulated(message: &mut DirtyMessage, simulated: bool) {
+    message.flags &= !SIMULATED_FLAG;
+    if simulated {
+        message.flags |= SIMULATED_FLAG;
+    }
+}
+
+/// These rows, all for acquired data only or none of them.
+fn all_rows(rows: &[Row], acquired_only: bool) -> Vec<Row> {
+    rows.iter().map(|row| Row { acquired_only, ..*row }).collect()
+}
+
+/// With the bit in every row a copy is that of the recording without its
+/// simulated messages, for which the bit changes nothing. Beside a row without
+/// the bit the same row with it changes nothing either. There are at most 16
+/// rows.
+pub fn acquired(judge: &mut Judge, dice: &mut Dice, messages: &[DirtyMessage], rows: &[Row]) {
+    let mut acquired = messages.to_vec();
+    acquired.retain(|message| message.flags & SIMULATED_FLAG == 0);
+    let (recording, acquired) = (lay_all(messages).0, lay_all(&acquired).0);
+    if recording.len() > MOST_BYTES {
+        // Without its simulated messages it may be short enough to be copied.
+        return;
+    }
+    let (with_bit, without) = (all_rows(rows, true), all_rows(rows, false));
+    let told = |what: &str| {
+        format!("  {what}\n{}  sheet:\n{}", dump(&recording, 0), dump(&pack_sheet(rows), 0))
+    };
+    let copy = copy_under(judge, dice, &recording, &with_bit);
+    let of_acquired = copy_under(judge, dice, &acquired, &with_bit);
+    judge.claim(copy == of_acquired, || told("simulated messages count under the bit"));
+    for rows in [rows, &without] {
+        let other = copy_under(judge, dice, &acquired, rows);
+        judge.claim(other == of_acquired, || told("the bit counts in acquired messages"));
+    }
+    let all = copy_under(judge, dice, &recording, &without);
+    for rows in [[&with_bit[..], &without].concat(), [&without[..], &with_bit].concat()] {
+        let beside = copy_under(judge, dice, &recording, &rows);
+        judge.claim(beside == all, || told("a row is not judged by itself"));
+    }
 }

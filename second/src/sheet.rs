@@ -16,6 +16,9 @@ pub struct Row {
     pub start_nanoseconds: u32,
     pub end_seconds: u32,
     pub end_nanoseconds: u32,
+    /// The lowest spare bit: the row grants only in messages that are not
+    /// simulated.
+    pub acquired_only: bool,
 }
 
 impl Row {
@@ -28,16 +31,17 @@ impl Row {
     }
 
     /// The id ranges have both their ends; the window has its start alone.
-    pub fn grants(&self, message_id: u32, package_id: u32, time: u64) -> bool {
+    pub fn grants(&self, message_id: u32, package_id: u32, time: u64, simulated: bool) -> bool {
         (self.message_first..=self.message_last).contains(&message_id)
             && (self.package_first..=self.package_last).contains(&package_id)
             && (self.start()..self.end()).contains(&time)
+            && !(self.acquired_only && simulated)
     }
 }
 
 /// Does some row of the sheet grant this package?
-pub fn granted(rows: &[Row], message_id: u32, package_id: u32, time: u64) -> bool {
-    rows.iter().any(|row| row.grants(message_id, package_id, time))
+pub fn granted(rows: &[Row], message_id: u32, package_id: u32, time: u64, simulated: bool) -> bool {
+    rows.iter().any(|row| row.grants(message_id, package_id, time, simulated))
 }
 
 /// Reads a sheet into its rows: first the size, then row after row.
@@ -67,8 +71,9 @@ fn read_row(bytes: &[u8]) -> Option<Row> {
         start_nanoseconds: (times >> 66) as u32 & 0x3FFF_FFFF,
         end_seconds: (times >> 34) as u32,
         end_nanoseconds: (times >> 4) as u32 & 0x3FFF_FFFF,
+        acquired_only: times & 1 != 0,
     };
-    let spare = times & 15;
+    let spare = times & 0b1110;
     let good = row.message_first <= row.message_last
         && row.package_first <= row.package_last
         && row.start_nanoseconds <= MOST_NANOSECONDS

@@ -86,7 +86,7 @@ pub fn clean(
     (given.answer, out.content().to_vec())
 }
 
-pub fn sheet(judge: &mut Judge, dice: &mut Dice, sheet: &[u8]) -> Answer<258> {
+pub fn sheet(judge: &mut Judge, dice: &mut Dice, sheet: &[u8]) -> Answer<290> {
     let mut input = Lent::new(dice, sheet);
     let given = exports::sheet(input.lend());
     let expected = answers::sheet(sheet);

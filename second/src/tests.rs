@@ -89,6 +89,7 @@ fn p9_r_is_read_as_said() {
         start_nanoseconds: 0,
         end_seconds: 101,
         end_nanoseconds: 0,
+        acquired_only: false,
     };
     assert_eq!(read_sheet(&row_r()), Ok(vec![row]));
 }

@@ -1,5 +1,6 @@
 -- What each export hands back, by the rules' answer: the refusal number, which it returns; the values, the place first; and the lent buffer as it is left, where one is lent.
 use Prim.Native.Nat.{ℕ, _+_, _-_, _*_}
+use mathlib.Core.Bool.{Bool, true, false}
 use mathlib.Core.List.{List, [], _∷_, map}
 use mathlib.Core.Option.{Option, none, some}
 use lib.ListN.{replicate}
@@ -49,12 +50,16 @@ writtenValues w = (w .number, w .place ∷ w .bytes ∷ [])
 abbrev pub writtenTold : Written × List ℕ → ℕ × List ℕ × List ℕ
 writtenTold = withBuffer writtenValues
 
--- a sheet: how many rows it has, and eight values for each row
+-- a sheet: how many rows it has, and nine values for each row, the last 1 where it is for acquired data only
+abbrev pub oneIf : Bool → ℕ
+oneIf true = 1
+oneIf false = 0
+
 abbrev pub rowValues : Row → List ℕ
-rowValues r = r .firstMessage ∷ r .lastMessage ∷ r .firstPackage ∷ r .lastPackage ∷ r .startSeconds ∷ r .startNanos ∷ r .endSeconds ∷ r .endNanos ∷ []
+rowValues r = r .firstMessage ∷ r .lastMessage ∷ r .firstPackage ∷ r .lastPackage ∷ r .startSeconds ∷ r .startNanos ∷ r .endSeconds ∷ r .endNanos ∷ oneIf (r .acquiredOnly) ∷ []
 
 abbrev pub sheetTold : Outcome (List Row × ℕ) → ℕ × List ℕ
-sheetTold (bad n p) = (n, refusedAt p (1 + 8 * mostRows))
+sheetTold (bad n p) = (n, refusedAt p (1 + 9 * mostRows))
 sheetTold (good (rows, count)) = (0, 0 ∷ count ∷ join (map rowValues rows))
 
 -- a copy measured, and written: bytes, messages and packages

@@ -168,29 +168,30 @@ pub extern "C" fn hibernaxo_clean(bytes: &[u8], out: &mut [u8], values: &mut [u6
 }
 
 // Two values from `at` on.
-fn put_two(values: &mut [u64; 258], at: usize, a: u32, b: u32)
-    requires { ⌜ at < 257 ⌝ }
+fn put_two(values: &mut [u64; 290], at: usize, a: u32, b: u32)
+    requires { ⌜ at < 289 ⌝ }
     ensures { λ _. ⌜ now (values .exit) ≡ sets (now (values .entry)) at (a ∷ b ∷ []) ⌝ }
 {
     values[at] = a as u64;
     values[at + 1] = b as u64;
 }
 
-// The eight values of row i, behind the place and the number of rows.
-fn put_row(values: &mut [u64; 258], i: usize, row: Row)
+// The nine values of row i, behind the place and the number of rows.
+fn put_row(values: &mut [u64; 290], i: usize, row: Row)
     requires { ⌜ i < 32 ⌝ }
-    ensures { λ _. ⌜ now (values .exit) ≡ sets (now (values .entry)) (2 + 8 * i) (rowValues (rowIn row)) ⌝ }
+    ensures { λ _. ⌜ now (values .exit) ≡ sets (now (values .entry)) (2 + 9 * i) (rowValues (rowIn row)) ⌝ }
 {
-    let at = 2 + 8 * i;
+    let at = 2 + 9 * i;
     let start = row.start;
     let end = row.end;
     put_two(values, at, row.first_mdid.0, row.last_mdid.0);
     put_two(values, at + 2, row.first_pdid.0, row.last_pdid.0);
     put_two(values, at + 4, start.seconds, start.nanos);
     put_two(values, at + 6, end.seconds, end.nanos);
+    values[at + 8] = row.acquired_only as u64;
 }
 
-fn put_rows(values: &mut [u64; 258], rows: [Row; 32])
+fn put_rows(values: &mut [u64; 290], rows: [Row; 32])
     ensures { λ _. ⌜ now (values .exit) ≡ sets (now (values .entry)) 2 (join (map rowValues (map rowIn rows))) ⌝ }
 {
     let mut i = 0;
@@ -201,14 +202,14 @@ fn put_rows(values: &mut [u64; 258], rows: [Row; 32])
     }
 }
 
-// An order sheet: how many rows, and eight values for each of 32 rows.
+// An order sheet: how many rows, and nine values for each of 32 rows.
 #[no_mangle]
-pub extern "C" fn hibernaxo_sheet(sheet: &[u8], values: &mut [u64; 258]) -> u32
+pub extern "C" fn hibernaxo_sheet(sheet: &[u8], values: &mut [u64; 290]) -> u32
     ensures { λ r. ⌜ (r, now (values .exit)) ≡ sheetTold (sheetRows (now (sheet .entry))) ⌝ }
 {
     let read = sheet::read_sheet(sheet);
     let answer = read.answer;
-    *values = [0; 258];
+    *values = [0; 290];
     match answer {
         SheetAnswer::Good => {
             let rows = read.rows;

@@ -2,7 +2,7 @@
 use Prim.Native.Nat.{ℕ, _+_, _-_, _*_, _/_, _%_, _≤_, _<_}
 use mathlib.Core.Path.{_≡_, refl, sym, ap, ap₂, _∙_}
 use mathlib.Core.Logic.{⊎-elim}
-use mathlib.Core.Bool.{Bool, true, false, _||_}
+use mathlib.Core.Bool.{Bool, _||_}
 use mathlib.Core.List.{List, [], _∷_, _++_, map, append-nil}
 use native.Mathlib.Omega.{arith}
 use lib.ListN.{length, take, drop, length-append, length-drop}
@@ -13,15 +13,14 @@ use Rattle.rules.specs.Bytes.{part}
 use Rattle.rules.specs.Packages as rules
 use Rattle.rules.specs.Packages.{cut, packageOf, pieceOf, packageTime}
 use Rattle.rules.specs.Message as messages
-use Rattle.rules.specs.Message.{head, payloadStart, checksOneToTen, recordOf, message}
+use Rattle.rules.specs.Message.{head, payloadStart, isSimulated, recordBits, checksOneToTen, recordOf, message}
 use Rattle.rules.specs.Writer.{write}
 use Rattle.rules.specs.Sheet as rows
 use Rattle.rules.specs.Copy.{granted, Entry, grantedPackages, withEntryOf, released, count, copyMessage, copyBytes, packagesIn}
 use Rattle.rules.proofs.Outcomes.{pass, step, stop, passed, stepped, good-inj, good≢bad, refused-step}
 use Rattle.rules.proofs.Cut as Cut
 use Rattle.rules.proofs.Passed.{Passed, passes}
-use Rattle.rules.proofs.Growing.{released-snoc, copyBytes-snoc}
-use Rattle.rules.proofs.Growing.{idOf}
+use Rattle.rules.proofs.Growing.{granted-alike, released-snoc, copyBytes-snoc, idOf}
 use Rattle.rules.proofs.Loops.{Doing, doing-next}
 use Rattle.refusal.specs.declared.Refusal.{Refusal}
 use Rattle.refusal.specs.Numbers.{numberOf}
@@ -76,18 +75,14 @@ module _ (recordingBytes : List ℕ) (k : ℕ) where
       ⊎-elim (λ b. stop _ _ b) (λ w. absurd (good≢bad (sym (w .2)))) (refused-step _ _ q)
 
 -- what a grant depends on
-module _ (m m′ : messages.Message) (i : m .id ≡ m′ .id) (s : m .seconds ≡ m′ .seconds) (n : m .nanos ≡ m′ .nanos) where
+module _ (m m′ : messages.Message) (f : m .flags ≡ m′ .flags) (i : m .id ≡ m′ .id) (s : m .seconds ≡ m′ .seconds) (n : m .nanos ≡ m′ .nanos) where
   granted-same : (rs : List rows.Row) (p : rules.Package) → granted rs m p ≡ granted rs m′ p
   unfolding granted
   granted-same [] p = refl
   granted-same (r ∷ rs) p =
-      let e : rows.grants (m .id) (p .id) (packageTime (m .seconds) (m .nanos) (p .delta)) r ≡ rows.grants (m′ .id) (p .id) (packageTime (m′ .seconds) (m′ .nanos) (p .delta)) r = rw (i, s, n) in
+      let e : rows.grants (m .id) (isSimulated (m .flags)) (p .id) (packageTime (m .seconds) (m .nanos) (p .delta)) r
+      ≡ rows.grants (m′ .id) (isSimulated (m′ .flags)) (p .id) (packageTime (m′ .seconds) (m′ .nanos) (p .delta)) r = rw (f, i, s, n) in
       ap₂ (λ (a b : Bool). a || b) e (granted-same rs p)
-
-  granteds-same : (rs : List rows.Row) (ps : List rules.Package) → grantedPackages rs m ps ≡ grantedPackages rs m′ ps
-  unfolding grantedPackages
-  granteds-same rs [] = refl
-  granteds-same rs (p ∷ ps) = ap₂ (λ (b : Bool) (l : List rules.Package). elim b [ true ↦ p ∷ l | false ↦ l ]) (granted-same rs p) (granteds-same rs ps)
 
 flag-bits : (f : ℕ) → (f / 64 % 2 * 64 + f % 16) / 2 % 8 * 2 ≡ f / 2 % 8 * 2
 flag-bits f =
@@ -141,7 +136,7 @@ module _ (recordingBytes : List ℕ) (k : ℕ) (m : Message) (f : Met recordingB
 
     granted-are : grantedPackages rs it (it .packages) ≡ ps
     unfolding kept recordOf
-    granted-are = granteds-same it (messageBy (m .header)) (f .id) (f .seconds) (f .nanos) rs (map packageOf (f .r .1))
+    granted-are = granted-alike rs rs it (messageBy (m .header)) (granted-same it (messageBy (m .header)) (ap recordBits (f .flags)) (f .id) (f .seconds) (f .nanos) rs) (map packageOf (f .r .1))
 
     pub grown : (done : List messages.Message) → released rs (done ++ (it ∷ [])) ≡ released rs done ++ withEntryOf it ps []
     grown done = rw (released-snoc rs done it, granted-are)

@@ -1,5 +1,5 @@
 -- The packages of one message: what the two loops over a run keep.
-use Prim.Native.Nat.{ℕ, _+_, _-_, _≤_, _<_}
+use Prim.Native.Nat.{ℕ, _+_, _-_, _*_, _/_, _%_, _≤_, _<_}
 use mathlib.Core.Path.{_≡_, refl, sym, _∙_}
 use mathlib.Core.Logic.{_⊎_, ⊎-elim}
 use mathlib.Core.Bool.{Bool, true, false}
@@ -12,7 +12,7 @@ use lib.Seq.{sets}
 use Rattle.rules.specs.Outcome.{good, bad}
 use Rattle.rules.specs.Packages as rules
 use Rattle.rules.specs.Packages.{piece, cut, packageOf, pieceOf, packageTime}
-use Rattle.rules.specs.Message.{Message}
+use Rattle.rules.specs.Message.{isSimulated, recordBits, Message}
 use Rattle.rules.specs.Sheet as rows
 use Rattle.rules.specs.Copy.{granted, grantedPackages}
 use Rattle.rules.proofs.Outcomes.{good-inj, good≢bad}
@@ -54,14 +54,22 @@ module _ (rs : List rows.Row) (m : Message) where
 payload-more : (ps : List rules.Package) (p : rules.Package) → payloadOf (ps ++ (p ∷ [])) ≡ payloadOf ps ++ pieceOf p
 payload-more ps p = rw (map-append, join-append, append-nil)
 
+-- a record keeps flag bit 3
+simulated-bit : (flags : ℕ) → isSimulated (recordBits flags) ≡ isSimulated flags
+simulated-bit flags =
+    let a : (flags / 64 % 2 * 64 + flags % 16) / 8 ≡ flags / 64 % 2 * 8 + flags % 16 / 8 = omega arith in
+    let b : flags % 16 / 8 ≡ flags / 8 % 2 = omega arith in
+    let c : (flags / 64 % 2 * 8 + flags / 8 % 2) % 2 ≡ flags / 8 % 2 = omega arith in
+    rw (a, b, c)
+
 -- whether a package that was found is granted
 module _ (rs : List Row) (n : ℕ) (h : Header) (run : List ℕ) (k : ℕ) (p : Package) (f : Found run k p) where
   abbrev asked : Bool
-  asked = someGrants (take n rs) (h .id .0) (p .id .0) (packageTime (h .seconds) (h .nanos) (p .delta))
+  asked = someGrants (take n rs) (h .id .0) (isSimulated (h .flags)) (p .id .0) (packageTime (h .seconds) (h .nanos) (p .delta))
 
   pub asked-is : asked ≡ granted (sheetOf rs n) (messageBy h) (packageOf (f .c))
   unfolding packageOf
-  asked-is = sym (rw (← id-is run k p f, ← delta-is run k p f) (search-is (take n rs) (messageBy h) (packageOf (f .c))))
+  asked-is = sym (rw (← id-is run k p f, ← delta-is run k p f, ← simulated-bit (h .flags)) (search-is (take n rs) (messageBy h) (packageOf (f .c))))
 
 -- ---- what both loops keep: the pieces before place k are done, and ps are the granted packages among them
 

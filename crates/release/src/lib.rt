@@ -7,6 +7,7 @@ ghost use lib.ListN.{length, take};
 ghost use lib.Seq.{sets};
 ghost use Rattle.rules.specs.Bytes.{put32};
 ghost use Rattle.rules.specs.Packages.{packageTime};
+ghost use Rattle.rules.specs.Message.{isSimulated};
 ghost use Rattle.rules.specs.Copy.{count, measurement, copy};
 ghost use Rattle.sheet.specs.Rows.{someGrants};
 ghost use Rattle.release.specs.Parts.{sheetOf, messageBy, Sized, withPackage, withEntry, Placed, pieceAs, Stored, StoredRun, headBytes, Place, heldWith, Ready, Delivered};
@@ -22,6 +23,7 @@ use refusal::Refusal;
 use refusal::Why;
 use sheet::Row;
 use sheet::SheetAnswer;
+use sheet::Source;
 use sheet::in_sheet;
 use sheet::read_sheet;
 use wire::put_part;
@@ -30,9 +32,13 @@ use wire::put_zeros;
 
 // Whether the sheet grants package p of the message with header h.
 fn is_granted(h: Header, p: Package, rows: [Row; 32], n: usize) -> bool
-    ensures { λ r. ⌜ r ≡ someGrants (take n rows) (h .id .0) (p .id .0) (packageTime (h .seconds) (h .nanos) (p .delta)) ⌝ }
+    ensures { λ r. ⌜ r ≡ someGrants (take n rows) (h .id .0) (isSimulated (h .flags)) (p .id .0) (packageTime (h .seconds) (h .nanos) (p .delta)) ⌝ }
 {
-    let m = h.id;
+    let mdid = h.id;
+    let m = Source {
+        mdid,
+        simulated: h.flags / 8 % 2 == 1,
+    };
     let id = p.id;
     in_sheet(rows, n, m, id, package_time(h.seconds, h.nanos, p.delta))
 }

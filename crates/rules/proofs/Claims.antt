@@ -15,7 +15,7 @@ use Rattle.rules.specs.Clean.{cleanForm, cleaner}
 use Rattle.rules.specs.Sheet.{Row}
 use Rattle.rules.specs.Copy.{Entry, packagesIn, releasedOf, reported, measurement, roomFor, answered, copy}
 use Rattle.rules.specs.Burst.{randomized, opening, randomizer, opener}
-use Rattle.rules.specs.Claims.{BuffersKept, PremisesMet, CountsChecked, WrittenRead, AcceptedValid, ReadValid, ReadWritten, PartsWritten, WriterWrites, CleanerWrites, RoomRefused, SpotOfRecord, SpotExactly, CleanAlone, CleanTwice, CleanExactly, PackageExactly, PackagePlace, CutExactly, WalkShowsAll, WalkStays, GrantedExactly, NoEmptyWindow, SeamOnce, SeamWhole, Recurrence, BitPeriod, TableEntry, RandomizedTwice, RandomizedByte, BurstExactly, SameCopies, SameMeasurements, DifferentCopies, CountsReleased, MeasuredReleased, MeasuredFirst, SequenceCounted, ReleasedExactly, CopyRead, CopyNotLonger, CopyPlain, OneOutcome, Claims, partsOf}
+use Rattle.rules.specs.Claims.{BuffersKept, PremisesMet, CountsChecked, WrittenRead, AcceptedValid, ReadValid, ReadWritten, PartsWritten, WriterWrites, CleanerWrites, RoomRefused, SpotOfRecord, SpotExactly, CleanAlone, CleanTwice, CleanExactly, PackageExactly, PackagePlace, CutExactly, WalkShowsAll, WalkStays, GrantedExactly, NoEmptyWindow, SeamOnce, SeamWhole, AcquiredOnly, Recurrence, BitPeriod, TableEntry, RandomizedTwice, RandomizedByte, BurstExactly, SameCopies, SameMeasurements, DifferentCopies, CountsReleased, MeasuredReleased, MeasuredFirst, SequenceCounted, ReleasedExactly, CopyRead, CopyNotLonger, CopyPlain, OneOutcome, Claims, partsOf}
 use Rattle.rules.proofs.Outcomes.{pass, step, stepped, came-after, good-inj}
 use Rattle.rules.proofs.Kept.{careful-stored, careful-answered, kept-randomized, kept-opened, writes, roomless}
 use Rattle.rules.proofs.Cut as Cut
@@ -26,6 +26,7 @@ use Rattle.rules.proofs.Writer.{accepts, accepted-valid, parts, parts-w
 use Rattle.rules.proofs.Refused.{exactly}
 use Rattle.rules.proofs.Walks.{walks-cut, stays}
 use Rattle.rules.proofs.Granted as Granted
+use Rattle.rules.proofs.Acquired as Acquired
 use Rattle.rules.proofs.Sequence as Sequence
 use Rattle.rules.proofs.Bursts.{randomizer-is, burst-exactly}
 use Rattle.rules.specs.Table.{Table}
@@ -153,6 +154,9 @@ seam-once rows rows′ seam ends starts m k = Granted.seam-once m k rows rows′
 pub seam-whole : SeamWhole
 seam-whole r a b c l h m k = Granted.seam-whole m k r a b c l h
 
+pub acquired-only : (ns : List ℕ) (ms : List Message) → AcquiredOnly ns ms
+acquired-only ns ms = record { kept = Acquired.kept ns ms; dropped = Acquired.dropped ns ms }
+
 pub recurrence : Recurrence
 recurrence = Sequence.recurrence
 
@@ -260,7 +264,7 @@ all-claims = record {
   writing = (written-read, read-written, parts-give-clean, writer-writes);
   cleaning = (cleaner-writes, clean-alone, clean-twice, clean-exactly);
   measuring = (measured-released, measured-first);
-  copying = (granted-by-ranges, no-empty-window, seam-once, seam-whole, released-exactly, sequence-counted, counts-released, copy-is-read, copy-not-longer, copy-is-plain);
+  copying = (granted-by-ranges, no-empty-window, seam-once, seam-whole, acquired-only, released-exactly, sequence-counted, counts-released, copy-is-read, copy-not-longer, copy-is-plain);
   bursts = (recurrence, bit-period, table-entry, randomized-twice, randomized-byte, burst-is);
   silence = (same-copies, same-measurements, different-copies);
   outcomes = one-outcome;

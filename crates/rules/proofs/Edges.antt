@@ -114,6 +114,7 @@ edges = record {
   sheets = refl;
   shown = refl;
   granted = refl;
+  acquired = refl;
   flags = refl;
   marked = refl;
   markers = refl;

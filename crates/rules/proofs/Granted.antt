@@ -1,38 +1,57 @@
--- A package is granted exactly if its ids lie in the ranges and its time in the window of some row; windows that meet; and no window is empty.
+-- A package is granted exactly if, for some row, its ids lie in the ranges, its time in the window, and its message is one that the row grants in; windows that
+-- meet; and no window is empty.
 use mathlib.Core.Path.{_≡_, refl, subst}
 use mathlib.Core.Logic.{_↔_}
-use mathlib.Core.Bool.{Bool, true, false, _&&_, _||_}
+use mathlib.Core.Bool.{Bool, true, false, not, _&&_, _||_}
 use mathlib.Core.List.{List, [], _∷_}
 use native.Mathlib.Omega.{arith}
-use borrow.Author.Tests.{leb-true, ltb-true, ltb-false, eqb-true, not-false, le-leb, lt-leb, lt-ltb}
+use borrow.Author.Tests.{leb-true, ltb-true, ltb-false, eqb-true, eqb-false, not-true, not-false, le-leb, lt-leb, lt-ltb, ne-eqb}
 use lib.Dec.{leb, ltb}
-use Prim.Native.Nat.{ℕ, _≤_, _<_}
+use Prim.Native.Nat.{ℕ, _/_, _%_, _≤_, _<_}
 use Rattle.rules.specs.Outcome.{good}
 use Rattle.rules.specs.Items.{All, all-cons}
 use Rattle.rules.specs.Packages.{Package, packageTime}
-use Rattle.rules.specs.Message.{mostNanos, Message}
+use Rattle.rules.specs.Message.{mostNanos, isSimulated, Message}
 use Rattle.rules.specs.Sheet.{Row, startOf, endOf, rowFits, row, sheet, grants}
 use Rattle.rules.specs.Copy.{granted}
 use Rattle.rules.specs.Claims.{InRanges, Some, here, there, over}
 use Rattle.rules.proofs.Outcomes.{both, passed, good-inj}
 use Rattle.rules.proofs.Walk.{items-all}
 
--- a time, with whatever else is asked, in one of two windows that meet, or in both joined
-meets : (also : Bool) (a b c t : ℕ) → a ≤ b → b ≤ c → (also && leb a t && ltb t b || (also && leb b t && ltb t c || false)) ≡ (also && leb a t && ltb t c || false)
-meets also a b c t l h = go (ltb t b) refl
+-- a time, with whatever else is asked before it and behind it, in one of two windows that meet, or in both joined
+meets : (also : Bool) (a b c t : ℕ) (last : Bool) → a ≤ b → b ≤ c
+    → (also && leb a t && ltb t b && last || (also && leb b t && ltb t c && last || false)) ≡ (also && leb a t && ltb t c && last || false)
+meets also a b c t last l h = go (ltb t b) refl
   where
-    early : (x y : Bool) → (x && y && true || (x && false && true || false)) ≡ (x && y && true || false)
-    early true true = refl
-    early true false = refl
-    early false y = refl
+    early : (x y z : Bool) → (x && y && true && z || (x && false && true && z || false)) ≡ (x && y && true && z || false)
+    early true true z = refl
+    early true false z = refl
+    early false y z = refl
 
-    late : (x y : Bool) → (x && true && false || (x && true && y || false)) ≡ (x && true && y || false)
-    late true y = refl
-    late false y = refl
+    late : (x y z : Bool) → (x && true && false && z || (x && true && y && z || false)) ≡ (x && true && y && z || false)
+    late true y z = refl
+    late false y z = refl
 
-    go : (y : Bool) → ltb t b ≡ y → (also && leb a t && y || (also && leb b t && ltb t c || false)) ≡ (also && leb a t && ltb t c || false)
-    go true e = rw (lt-leb b t (ltb-true t b e), lt-ltb t c (omega (arith, ltb-true t b e))) (early also (leb a t))
-    go false e = rw (le-leb b t (ltb-false t b e), le-leb a t (omega (arith, ltb-false t b e))) (late also (ltb t c))
+    go : (y : Bool) → ltb t b ≡ y → (also && leb a t && y && last || (also && leb b t && ltb t c && last || false)) ≡ (also && leb a t && ltb t c && last || false)
+    go true e = rw (lt-leb b t (ltb-true t b e), lt-ltb t c (omega (arith, ltb-true t b e))) (early also (leb a t) last)
+    go false e = rw (le-leb b t (ltb-false t b e), le-leb a t (omega (arith, ltb-false t b e))) (late also (ltb t c) last)
+
+-- whether bit 3 is 1, and what a row for acquired data only asks of it
+pub bit-clear : (flags : ℕ) → isSimulated flags ≡ false → flags / 8 % 2 ≡ 0
+bit-clear flags e =
+    let h : flags / 8 % 2 ≡ 1 → ⊥ = eqb-false (flags / 8 % 2) 1 e in
+    omega arith
+
+pub clear-bit : (flags : ℕ) → flags / 8 % 2 ≡ 0 → isSimulated flags ≡ false
+clear-bit flags e = ne-eqb (flags / 8 % 2) 1 (λ h. omega arith)
+
+only : (a : Bool) (flags : ℕ) → not (a && isSimulated flags) ≡ true → a ≡ true → flags / 8 % 2 ≡ 0
+only true flags e q = bit-clear flags (not-true _ e)
+only false flags e q = let z : _≡_ {A = ℕ} 0 1 = cc in absurd (omega arith)
+
+pub only-by : (a : Bool) (flags : ℕ) → (a ≡ true → flags / 8 % 2 ≡ 0) → not (a && isSimulated flags) ≡ true
+only-by true flags h = rw (clear-bit flags (h refl))
+only-by false flags h = refl
 
 module _ (m : Message) (k : Package) where
   abbrev time : ℕ
@@ -40,11 +59,12 @@ module _ (m : Message) (k : Package) where
 
   -- whether a row grants the package
   abbrev by : Row → Bool
-  by r = grants (m .id) (k .id) time r
+  by r = grants (m .id) (isSimulated (m .flags)) (k .id) time r
 
   in-ranges : (r : Row) → by r ≡ true → InRanges m k r
   unfolding grants
   in-ranges r e =
+      let (e, o) = both _ _ e in
       let (e, a) = both _ _ e in
       let (e, b) = both _ _ e in
       let (e, c) = both _ _ e in
@@ -57,12 +77,21 @@ module _ (m : Message) (k : Package) where
         package-last = leb-true _ _ c;
         start = leb-true _ _ b;
         end = ltb-true _ _ a;
+        acquired = only (r .acquiredOnly) (m .flags) o;
       }
 
   by-ranges : (r : Row) → InRanges m k r → by r ≡ true
   unfolding grants
   by-ranges r i =
-      rw (le-leb _ _ (i .message-first), le-leb _ _ (i .message-last), le-leb _ _ (i .package-first), le-leb _ _ (i .package-last), le-leb _ _ (i .start), lt-ltb _ _ (i .end))
+      rw (
+        le-leb _ _ (i .message-first),
+        le-leb _ _ (i .message-last),
+        le-leb _ _ (i .package-first),
+        le-leb _ _ (i .package-last),
+        le-leb _ _ (i .start),
+        lt-ltb _ _ (i .end),
+        only-by (r .acquiredOnly) (m .flags) (i .acquired),
+      )
 
   some-row : (rows : List Row) → granted rows m k ≡ true → Some (InRanges m k) rows
   unfolding granted
@@ -104,7 +133,7 @@ module _ (m : Message) (k : Package) where
 
   pub seam-whole : (r : Row) (a b c : ℕ) → a ≤ b → b ≤ c → granted (over a b r ∷ over b c r ∷ []) m k ≡ granted (over a c r ∷ []) m k
   unfolding granted grants
-  seam-whole r a b c l h = meets (ids r) (startOf (over a b r)) (endOf (over a b r)) (endOf (over b c r)) time (omega arith) (omega arith)
+  seam-whole r a b c l h = meets (ids r) (startOf (over a b r)) (endOf (over a b r)) (endOf (over b c r)) time (not (r .acquiredOnly && isSimulated (m .flags))) (omega arith) (omega arith)
 
 -- ---- every row of a sheet that passes starts before it ends
 

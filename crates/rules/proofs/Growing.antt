@@ -1,6 +1,6 @@
 -- How the released list and the copy grow, message by message: what the loop of the copy keeps.
 use Prim.Native.Nat.{ℕ, suc, _+_, _*_, _/_, _%_}
-use mathlib.Core.Path.{_≡_, refl, ap, _∙_}
+use mathlib.Core.Path.{_≡_, refl, ap, ap₂, _∙_}
 use mathlib.Core.Bool.{Bool, true, false}
 use mathlib.Core.List.{List, [], _∷_, _++_, map, append-nil, append-assoc}
 use native.Mathlib.Nat.{zero-add, add-zero}
@@ -42,6 +42,12 @@ granted-append rs m (k ∷ ks) ls = go (granted rs m k) (granted-append rs m ks 
         ≡ elim b [ true ↦ k ∷ grantedPackages rs m ks | false ↦ grantedPackages rs m ks ] ++ grantedPackages rs m ls
     go true e = rw e
     go false e = e
+
+-- what is granted alike is kept alike, by whatever rows and of whatever message
+pub granted-alike : (rs rs′ : List Row) (m m′ : Message) → ((k : Package) → granted rs m k ≡ granted rs′ m′ k) → (ks : List Package) → grantedPackages rs m ks ≡ grantedPackages rs′ m′ ks
+unfolding grantedPackages
+granted-alike rs rs′ m m′ h [] = refl
+granted-alike rs rs′ m m′ h (k ∷ ks) = ap₂ (λ (b : Bool) (l : List Package). elim b [ true ↦ k ∷ l | false ↦ l ]) (h k) (granted-alike rs rs′ m m′ h ks)
 
 -- what one message releases
 module _ (rs : List Row) (m : Message) where

@@ -22,6 +22,7 @@ pub mod Kept
 pub mod Apart
 pub mod Spots
 pub mod Granted
+pub mod Acquired
 pub mod Claims
 pub mod Rows
 pub mod Sequence

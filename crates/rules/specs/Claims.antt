@@ -10,13 +10,13 @@ use Rattle.rules.specs.Outcome.{good, bad, PACKAGE, ROOM}
 use Rattle.rules.specs.Bytes.{Bytes, part, join}
 use Rattle.rules.specs.Items.{items, All}
 use Rattle.rules.specs.Packages.{Package, packageFits, cut, packageOf, Fills, packageTime}
-use Rattle.rules.specs.Message.{headerBytes, mostBytes, Head, head, payloadStart, payload, recordBits, checksOneToNine, Message, message, recording}
+use Rattle.rules.specs.Message.{headerBytes, mostBytes, Head, head, payloadStart, payload, isSimulated, recordBits, checksOneToNine, Message, message, recording}
 use Rattle.rules.specs.Reading.{optionRun, MessageSpot, messageAt, checkedRecording}
 use Rattle.rules.specs.Walk.{PackageSpot, packageAt, dataAt, nextAt, Walks}
 use Rattle.rules.specs.Writer.{write, Draft, accepted, written, writer}
 use Rattle.rules.specs.Clean.{cleanForm, cleaner}
 use Rattle.rules.specs.Valid.{Valid, DraftFits}
-use Rattle.rules.specs.Sheet.{Row, startOf, endOf, sheet}
+use Rattle.rules.specs.Sheet.{Row, rowOf, startOf, endOf, sheet}
 use Rattle.rules.specs.Copy.{granted, Entry, grantedPackages, released, count, copyMessage, copyMessages, copyBytes, releasedOf, measurement, copy, delivered}
 use Rattle.rules.specs.Table.{Table}
 use Rattle.rules.specs.Edges.{Edges}
@@ -142,7 +142,8 @@ WalkShowsAll = (s : List ℕ) → length s ≤ mostBytes → (pieces : List (Lis
 abbrev pub WalkStays : Type 0
 WalkStays = (s : List ℕ) (i : ℕ) → ((k : PackageSpot) → packageAt s i ≡ good (some k) → ⊥) → (nextAt s i ≡ i) × (dataAt s i ≡ [])
 
--- A package is granted exactly if, in some row, message id and package id lie in the ranges, ends included, and package time in the window, start included and end not.
+-- A package is granted exactly if, in some row, message id and package id lie in the ranges, ends included, and package time in the window, start included and end not;
+-- and, where the row is for acquired data only, flag bit 3 of the message is 0. Each row is judged by itself.
 pub record InRanges (m : Message) (k : Package) (r : Row) : Type 0 where
   pub message-first : r .firstMessage ≤ m .id
   pub message-last : m .id ≤ r .lastMessage
@@ -150,6 +151,7 @@ pub record InRanges (m : Message) (k : Package) (r : Row) : Type 0 where
   pub package-last : k .id ≤ r .lastPackage
   pub start : startOf r ≤ packageTime (m .seconds) (m .nanos) (k .delta)
   pub end : packageTime (m .seconds) (m .nanos) (k .delta) < endOf r
+  pub acquired : r .acquiredOnly ≡ true → m .flags / 8 % 2 ≡ 0
 
 pub data Some {A : Type 0} (P : A → Type 0) : List A → Type 0 where
   here : {a : A} {l : List A} → P a → Some P (a ∷ l)
@@ -170,10 +172,20 @@ SeamOnce = (rows rows′ : List Row) (seam : ℕ) → All (λ (r : Row). endOf r
 -- Two rows that agree in all but time, the first ending where the second starts, grant together exactly what one row over both windows grants. The window
 -- of `over a b r` goes from a to b, in nanoseconds.
 abbrev pub over : ℕ → ℕ → Row → Row
-over start end r = record { firstMessage = r .firstMessage; lastMessage = r .lastMessage; firstPackage = r .firstPackage; lastPackage = r .lastPackage; startSeconds = start / 10 ^ 9; startNanos = start % 10 ^ 9; endSeconds = end / 10 ^ 9; endNanos = end % 10 ^ 9; spare = r .spare }
+over start end r = record { firstMessage = r .firstMessage; lastMessage = r .lastMessage; firstPackage = r .firstPackage; lastPackage = r .lastPackage; startSeconds = start / 10 ^ 9; startNanos = start % 10 ^ 9; endSeconds = end / 10 ^ 9; endNanos = end % 10 ^ 9; spare = r .spare; acquiredOnly = r .acquiredOnly }
 
 abbrev pub SeamWhole : Type 0
 SeamWhole = (r : Row) (a b c : ℕ) → a ≤ b → b ≤ c → (m : Message) (k : Package) → granted (over a b r ∷ over b c r ∷ []) m k ≡ granted (over a c r ∷ []) m k
+
+-- What the lowest of a row's 256 bits does, row n without it being n / 2 * 2. While no message is simulated it changes nothing; set in every row, it leaves
+-- what the rows without it release of the recording without its simulated messages.
+abbrev pub acquired : List Message → List Message
+acquired [] = []
+acquired (m ∷ ms) = elim (isSimulated (m .flags)) [ true ↦ acquired ms | false ↦ m ∷ acquired ms ]
+
+pub record AcquiredOnly (ns : List ℕ) (ms : List Message) : Type 0 where
+  pub kept : All (λ (m : Message). m .flags / 8 % 2 ≡ 0) ms → released (map rowOf ns) ms ≡ released (map (λ n. rowOf (n / 2 * 2)) ns) ms
+  pub dropped : All (λ (n : ℕ). n % 2 ≡ 1) ns → released (map rowOf ns) ms ≡ released (map (λ n. rowOf (n / 2 * 2)) ns) (acquired ms)
 
 -- Each bit of the randomizer's sequence behind the first eight is the exclusive-or of those 8, 5, 3 and 1 places before it.
 abbrev pub Recurrence : Type 0
@@ -286,7 +298,7 @@ pub record Claims : Type 1 where
   pub writing : WrittenRead × ReadWritten × PartsWritten × WriterWrites
   pub cleaning : CleanerWrites × CleanAlone × CleanTwice × CleanExactly
   pub measuring : MeasuredReleased × ((recording sheet : List ℕ) → MeasuredFirst recording sheet)
-  pub copying : GrantedExactly × NoEmptyWindow × SeamOnce × SeamWhole × ((rows : List Row) → ReleasedExactly rows) × SequenceCounted × CountsReleased × CopyRead × CopyNotLonger × CopyPlain
+  pub copying : GrantedExactly × NoEmptyWindow × SeamOnce × SeamWhole × ((ns : List ℕ) (ms : List Message) → AcquiredOnly ns ms) × ((rows : List Row) → ReleasedExactly rows) × SequenceCounted × CountsReleased × CopyRead × CopyNotLonger × CopyPlain
   pub bursts : Recurrence × BitPeriod × TableEntry × RandomizedTwice × RandomizedByte × BurstExactly
   pub silence : SameCopies × SameMeasurements × DifferentCopies
   pub outcomes : OneOutcome

@@ -9,7 +9,7 @@ use lib.Seq.{sets}
 use Rattle.rules.specs.Outcome.{Outcome, good, bad, _>>=_}
 use Rattle.rules.specs.Bytes.{join}
 use Rattle.rules.specs.Packages.{Package, packageTime}
-use Rattle.rules.specs.Message.{Message, recording}
+use Rattle.rules.specs.Message.{isSimulated, Message, recording}
 use Rattle.rules.specs.Buffer.{fitted}
 use Rattle.rules.specs.Writer.{write}
 use Rattle.rules.specs.Sheet.{Row, sheet, grants}
@@ -17,7 +17,7 @@ use Rattle.rules.specs.Sheet.{Row, sheet, grants}
 -- some row grants package p of message m
 unfoldable pub granted : List Row → Message → Package → Bool
 granted [] m p = false
-granted (r ∷ rs) m p = grants (m .id) (p .id) (packageTime (m .seconds) (m .nanos) (p .delta)) r || granted rs m p
+granted (r ∷ rs) m p = grants (m .id) (isSimulated (m .flags)) (p .id) (packageTime (m .seconds) (m .nanos) (p .delta)) r || granted rs m p
 
 -- bits 3, 2 and 1 of a record's flags, which the released list has, each at its place
 abbrev pub listedBits : ℕ → ℕ

@@ -101,13 +101,13 @@ pub record Edges : Type 0 where
       ∷ (draft 0 [] [], good (words (0x1000004F ∷ 7 ∷ 5 ∷ 0x18 ∷ 100 ∷ 0 ∷ []))) ∷ [])
   pub clean : cleanForm (words (0x12F0FFCF ∷ 7 ∷ 5 ∷ 0x30 ∷ 100 ∷ 0 ∷ 0x0100FFFF ∷ 0xFFFFFFFF ∷ 1 ∷ 0x000D7788 ∷ 9 ∷ 0xAABBCCDD ∷ 0xFFFFFFFF ∷ [])) ≡
       good (words (0x110000CF ∷ 7 ∷ 5 ∷ 0x2C ∷ 100 ∷ 0 ∷ 0x01000000 ∷ 1 ∷ 0x000D0088 ∷ 9 ∷ 0xAA000000 ∷ []))
-  -- ---- The order sheet: every field of a row; R, ids, times, nanoseconds and spare bits; sizes, and a second row, also of zeros; what is shown.
-  pub rowFields : sheet (packed 1 2 3 4 5 0x30000006 0xF0000007 0x30000008 0) ≡ good
-      (record { firstMessage = 1; lastMessage = 2; firstPackage = 3; lastPackage = 4; startSeconds = 5; startNanos = 0x30000006; endSeconds = 0xF0000007; endNanos = 0x30000008; spare = 0 } ∷ [])
+  -- ---- The order sheet: every field of a row; R, ids, times, nanoseconds, the bit for acquired data only and the spare bits; sizes, and a second row, also of zeros; what is shown.
+  pub rowFields : sheet (packed 1 2 3 4 5 0x30000006 0xF0000007 0x30000008 1) ≡ good
+      (record { firstMessage = 1; lastMessage = 2; firstPackage = 3; lastPackage = 4; startSeconds = 5; startNanos = 0x30000006; endSeconds = 0xF0000007; endNanos = 0x30000008; spare = 0; acquiredOnly = true } ∷ [])
   pub rows : Gives (λ (s : List ℕ). told (sheet s)) (
       (R, (0, 0)) ∷ (packed 8 7 1 1 100 0 101 0 0, (ROW, 0)) ∷ (packed 7 7 2 1 100 0 101 0 0, (ROW, 0)) ∷ (packed 7 7 1 1 100 5 100 5 0, (ROW, 0)) ∷ (packed 7 7 1 1 100 5 100 6 0, (0, 0))
       ∷ (packed 7 7 1 1 101 0 100 999999999 0, (ROW, 0)) ∷ (packed 7 7 1 1 100 999999999 101 0 0, (0, 0)) ∷ (packed 7 7 1 1 100 1000000000 102 0 0, (ROW, 0)) ∷ (packed 7 7 1 1 100 0 101 999999999 0, (0, 0)) ∷ (packed 7 7 1 1 100 0 101 1000000000 0, (ROW, 0))
-      ∷ (packed 7 7 1 1 100 0 101 0 1, (ROW, 0)) ∷ (packed 7 7 1 1 100 0 101 0 2, (ROW, 0)) ∷ (packed 7 7 1 1 100 0 101 0 4, (ROW, 0)) ∷ (packed 7 7 1 1 100 0 101 0 8, (ROW, 0)) ∷ [])
+      ∷ (packed 7 7 1 1 100 0 101 0 1, (0, 0)) ∷ (packed 7 7 1 1 100 0 101 0 2, (ROW, 0)) ∷ (packed 7 7 1 1 100 0 101 0 4, (ROW, 0)) ∷ (packed 7 7 1 1 100 0 101 0 8, (ROW, 0)) ∷ [])
   pub sheets : Gives (λ (s : List ℕ). told (sheet s)) (
       ([], (0, 0)) ∷ (take 31 R, (ROW, 31)) ∷ (join (replicate 32 R), (0, 0)) ∷ (join (replicate 33 R), (ROW, 1056)) ∷ (R ++ packed 8 7 1 1 100 0 101 0 0, (ROW, 32)) ∷ (R ++ replicate 32 0, (ROW, 32)) ∷ (packed 8 7 1 1 100 0 101 0 0 ++ take 1 R, (ROW, 33)) ∷ [])
   pub shown : Gives shownOf ((R, (7 ∷ replicate 31 0, 1)) ∷ (take 31 R, (replicate 32 0, 0)) ∷ [])
@@ -115,6 +115,9 @@ pub record Edges : Type 0 where
   pub granted : Gives (λ (s : List ℕ). copy M s (replicate 56 0) .0 .packages) (
       (packed 7 7 2 2 100 0 100 10 0, 0) ∷ (packed 7 7 2 2 100 0 100 11 0, 1) ∷ (packed 7 7 2 2 100 10 100 11 0, 1) ∷ (packed 7 7 2 2 100 11 101 0 0, 0)
       ∷ (packed 6 7 1 2 100 0 101 0 0, 2) ∷ (packed 7 8 0 1 100 0 101 0 0, 1) ∷ (packed 8 8 1 2 100 0 101 0 0, 0) ∷ (packed 6 6 1 2 100 0 101 0 0, 0) ∷ (packed 7 7 3 3 100 0 101 0 0, 0) ∷ (packed 7 7 0 0 100 0 101 0 0, 0) ∷ [])
+  -- where bit 3 is 0 and all other bits are 1, and where bit 3 is 1 and the others are 0: R, R for acquired data only, both in either order, and R beside such a row for package 2
+  pub acquired : Gives (λ (s : List ℕ). map (λ flags. copy (changed M ((3, flags) ∷ [])) s (replicate 56 0) .0 .packages) (0xC7 ∷ 0x88 ∷ [])) (
+      (R, 1 ∷ 1 ∷ []) ∷ (packed 7 7 1 1 100 0 101 0 1, 1 ∷ 0 ∷ []) ∷ (R ++ packed 7 7 1 1 100 0 101 0 1, 1 ∷ 1 ∷ []) ∷ (packed 7 7 1 1 100 0 101 0 1 ++ R, 1 ∷ 1 ∷ []) ∷ (R ++ packed 7 7 2 2 100 0 101 0 1, 2 ∷ 1 ∷ []) ∷ [])
   -- ---- The copy: bits 3, 2 and 1 as listed, bit 0 zero.
   pub flags : take 4 (delivered (copy (changed M ((3, 0x8F) ∷ [])) R (replicate 40 0))) ≡ 0x10 ∷ 0x00 ∷ 0x00 ∷ 0xCE ∷ []
   -- ---- Bursts: the marker, each of its bytes, and codeblocks.

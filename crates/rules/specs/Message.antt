@@ -1,6 +1,6 @@
 -- Document 01, 'The message', and checks 1 to 10 of 'Refusal numbers': a header's numbers, the record of a message, and a recording.
 use Prim.Native.Nat.{ℕ, zero, _+_, _*_, _/_, _%_}
-use mathlib.Core.Bool.{not, _||_}
+use mathlib.Core.Bool.{Bool, not, _||_}
 use mathlib.Core.List.{List, map}
 use lib.Dec.{ltb, eqb}
 use lib.ListN.{length}
@@ -49,12 +49,15 @@ head s = record {
   nanos = word s 20;
 }
 
--- flag bit 7, all packages have the standard header; and bits 5-4, the fragment
+-- flag bit 7, all packages have the standard header; bits 5-4, the fragment; and whether bit 3 is 1, simulated
 abbrev pub standardBit : ℕ → ℕ
 standardBit flags = flags / 128 % 2
 
 abbrev pub fragmentBits : ℕ → ℕ
 fragmentBits flags = flags / 16 % 4
+
+abbrev pub isSimulated : ℕ → Bool
+isSimulated flags = eqb (flags / 8 % 2) 1
 
 -- bits 6, 3, 2, 1 and 0, which a record keeps, each at its place: playback, simulated, not time locked, source error, end of data
 abbrev pub recordBits : ℕ → ℕ

@@ -1,4 +1,4 @@
--- Document 01, 'The order sheet', with the windows of document 02, A4: rows of 256 bits, most significant first; which rows keep the rules, and
+-- Document 01, 'The order sheet', with the windows of document 02, A4, and its acquired data only, A8: rows of 256 bits, most significant first; which rows keep the rules, and
 -- which packages a row grants.
 use Prim.Native.Nat.{ℕ, zero, _+_, _-_, _*_, _/_, _%_, _^_}
 use mathlib.Core.Bool.{Bool, not, _&&_, _||_}
@@ -32,6 +32,7 @@ pub record Row : Type 0 where
   pub endSeconds : ℕ
   pub endNanos : ℕ
   pub spare : ℕ
+  pub acquiredOnly : Bool
 
 -- the fields of a row's 256 bits, the first the highest
 unfoldable pub rowOf : ℕ → Row
@@ -44,7 +45,8 @@ rowOf n = record {
   startNanos = n / 2 ^ 66 % 2 ^ 30;
   endSeconds = n / 2 ^ 34 % 2 ^ 32;
   endNanos = n / 2 ^ 4 % 2 ^ 30;
-  spare = n % 2 ^ 4;
+  spare = n / 2 % 2 ^ 3;
+  acquiredOnly = eqb (n % 2) 1;
 }
 
 -- when a row's window starts, and when it ends
@@ -54,7 +56,7 @@ startOf r = instant (r .startSeconds) (r .startNanos)
 abbrev pub endOf : Row → ℕ
 endOf r = instant (r .endSeconds) (r .endNanos)
 
--- in each pair of ids first ≤ last; nanoseconds within a second; start < end; spare bits zero
+-- in each pair of ids first ≤ last; nanoseconds within a second; start < end; the three spare bits zero
 unfoldable pub rowFits : Row → Bool
 rowFits r =
     leb (r .firstMessage) (r .lastMessage) && leb (r .firstPackage) (r .lastPackage)
@@ -84,9 +86,10 @@ unfoldable pub shownRows : Outcome (List Row × ℕ) → List Row × ℕ
 shownRows (good x) = x
 shownRows (bad n p) = (replicate mostRows (rowOf 0), 0)
 
--- message id and package id lie in the row's ranges, ends included, and package time in its window, start included and end not
-unfoldable pub grants : ℕ → ℕ → ℕ → Row → Bool
-grants messageId packageId time r =
+-- message id and package id lie in the row's ranges, ends included, and package time in its window, start included and end not; and the message is not
+-- simulated where the row grants acquired data only
+unfoldable pub grants : ℕ → Bool → ℕ → ℕ → Row → Bool
+grants messageId simulated packageId time r =
     leb (r .firstMessage) messageId && leb messageId (r .lastMessage)
     && leb (r .firstPackage) packageId && leb packageId (r .lastPackage)
-    && leb (startOf r) time && ltb time (endOf r)
+    && leb (startOf r) time && ltb time (endOf r) && not (r .acquiredOnly && simulated)

@@ -1,6 +1,7 @@
 -- Document 01, 'Numbers to check by': P1 to P12 as one record.
 use mathlib.Core.Path.{_≡_}
 use mathlib.Core.List.{List, [], _∷_, map}
+use mathlib.Core.Bool.{false}
 use Prim.Native.Nat.{ℕ}
 use lib.ListN.{length, replicate}
 use Rattle.rules.specs.Outcome.{good, bad, SHORT, VERSION, LENGTH, CUT, TIME, OPTION, PACKAGE, ROOM}
@@ -56,7 +57,7 @@ pub record Table : Type 0 where
   pub P8-17 : recording (messageWith 0x10000080 0x38 0 0x00110000) ≡ bad PACKAGE 44
   pub P8-16 : Passes (messageWith 0x10000080 0x38 0 0x00100000)
   pub P9 : sheet R ≡ good
-      (record { firstMessage = 7; lastMessage = 7; firstPackage = 1; lastPackage = 1; startSeconds = 100; startNanos = 0; endSeconds = 101; endNanos = 0; spare = 0 } ∷ [])
+      (record { firstMessage = 7; lastMessage = 7; firstPackage = 1; lastPackage = 1; startSeconds = 100; startNanos = 0; endSeconds = 101; endNanos = 0; spare = 0; acquiredOnly = false } ∷ [])
   pub P10 : copy M R (replicate 44 0xEE) ≡ (
     record { number = 0; place = 0; bytes = 40; messages = 1; packages = 1 },
     words (0x100000C0 ∷ 0x00000007 ∷ 0x00000000 ∷ 0x00000028 ∷ 0x00000064 ∷ 0x00000000 ∷ 0x00000001 ∷ 0x000D0000 ∷ 0x00000000 ∷ 0xAA000000 ∷ 0xEEEEEEEE ∷ []),

@@ -31,15 +31,7 @@ pub record Draft : Type 0 where
 
 -- the record of a draft whose run is cut into these pieces
 unfoldable pub drafted : Draft → List (List ℕ) → Message
-drafted d cs = record {
-  flags = recordBits (d .flags);
-  id = d .id;
-  sequence = d .sequence;
-  seconds = d .seconds;
-  nanos = d .nanos;
-  options = d .options;
-  packages = map packageOf cs;
-}
+drafted d cs = record { flags = recordBits (d .flags); id = d .id; sequence = d .sequence; seconds = d .seconds; nanos = d .nanos; options = d .options; packages = map packageOf cs }
 
 -- the record that a draft stands for. An option of kind 0x00 ends the option run before its bytes end, and is refused where it stands
 unfoldable pub accepted : Draft → Outcome Message

@@ -1,5 +1,5 @@
 -- Reading a row and a sheet: a law for each `return`, and what the loop over the rows keeps.
-use Prim.Native.Nat.{ℕ, zero, suc, _+_, _-_, _*_, _%_, _≤_, _<_}
+use Prim.Native.Nat.{ℕ, zero, suc, _+_, _-_, _*_, _/_, _%_, _≤_, _<_}
 use mathlib.Core.Path.{_≡_, refl, sym, ap, _∙_}
 use mathlib.Core.Bool.{Bool, true, false, not, _&&_}
 use mathlib.Core.List.{List, [], _∷_, _++_, map, append-assoc}
@@ -70,15 +70,15 @@ module _ (s : List ℕ) (l : 32 ≤ length s) (b : Bytes s) where
   unfolding rules.row
   refused e = record { reads = λ p. sym (halt (not (rowFits found)) ROW p (good (found, 32)) (rw e)) }
 
-  pub spare-bits : (word s 28 % 16 ≡ 0 → ⊥) → ReadsRow s Bad
+  pub spare-bits : (word s 28 / 2 % 8 ≡ 0 → ⊥) → ReadsRow s Bad
   spare-bits h =
-      let e : found .spare ≡ word s 28 % 16 = ap (λ (r : rules.Row). r .spare) (row-words s l b) in
+      let e : found .spare ≡ word s 28 / 2 % 8 = ap (λ (r : rules.Row). r .spare) (row-words s l b) in
       refused (spared found (λ z. h (sym e ∙ z)))
 
-  no-spare : word s 28 % 16 ≡ 0 → found ≡ rowIn (rowAt s)
+  no-spare : word s 28 / 2 % 8 ≡ 0 → found ≡ rowIn (rowAt s)
   no-spare e = row-words s l b ∙ rw e
 
-  module _ (r : Row) (is : r ≡ rowAt s) (none : word s 28 % 16 ≡ 0) where
+  module _ (r : Row) (is : r ≡ rowAt s) (none : word s 28 / 2 % 8 ≡ 0) where
     same : found ≡ rowIn r
     same = no-spare none ∙ ap rowIn (sym is)
 

@@ -26,6 +26,13 @@ pub struct Row {
     pub last_pdid: Pdid,
     pub start: Time,
     pub end: Time,
+    pub acquired_only: bool,
+}
+
+// What a grant looks at of a message beside its time.
+pub struct Source {
+    pub mdid: Mdid,
+    pub simulated: bool,
 }
 
 // A time as a whole number of nanoseconds.
@@ -35,7 +42,7 @@ fn nanos_of(t: Time) -> u64
     t.seconds as u64 * 1_000_000_000 + t.nanos as u64
 }
 
-// The row in eight words, without its spare bits.
+// The row in eight words, without its three spare bits.
 fn row_at(s: &[u8]) -> Row
     ensures { λ r. ⌜ r ≡ rowAt (now (s .entry)) ⌝ }
 {
@@ -56,6 +63,7 @@ fn row_at(s: &[u8]) -> Row
         last_pdid: Pdid(word_at(s, 12)),
         start,
         end,
+        acquired_only: word_at(s, 28) % 2 == 1,
     }
 }
 
@@ -90,7 +98,7 @@ fn read_row(s: &[u8]) -> RowRead
     requires { ⌜ 32 ≤ length (now s) ⌝ }
     ensures { λ r. ⌜ ReadsRow (now (s .entry)) r ⌝ }
 {
-    if word_at(s, 28) % 16 != 0 {
+    if word_at(s, 28) / 2 % 8 != 0 {
         return RowRead::Bad;
     }
     let row = row_at(s);
@@ -116,6 +124,7 @@ fn no_row() -> Row
         last_pdid: Pdid(0),
         start: zero,
         end: zero,
+        acquired_only: false,
     }
 }
 
@@ -179,13 +188,14 @@ pub fn read_sheet(s: &[u8]) -> SheetRead
 }
 
 // Whether a row grants a package of message m with this id and time. Both ends of a range of ids are included, the end of the window is not.
-pub fn grants(row: Row, m: Mdid, p: Pdid, t: u64) -> bool
-    ensures { λ r. ⌜ r ≡ grants (m .0) (p .0) t (rowIn row) ⌝ }
+pub fn grants(row: Row, m: Source, p: Pdid, t: u64) -> bool
+    ensures { λ r. ⌜ r ≡ grants (m .mdid .0) (m .simulated) (p .0) t (rowIn row) ⌝ }
 {
-    if m.0 < row.first_mdid.0 {
+    let id = m.mdid;
+    if id.0 < row.first_mdid.0 {
         return false;
     }
-    if row.last_mdid.0 < m.0 {
+    if row.last_mdid.0 < id.0 {
         return false;
     }
     if p.0 < row.first_pdid.0 {
@@ -199,12 +209,18 @@ pub fn grants(row: Row, m: Mdid, p: Pdid, t: u64) -> bool
         return false;
     }
     let end = row.end;
-    t < nanos_of(end)
+    if nanos_of(end) <= t {
+        return false;
+    }
+    if row.acquired_only {
+        return !m.simulated;
+    }
+    true
 }
 
 // Whether some row of the sheet grants it.
-pub fn some_row_grants(rows: &[Row], m: Mdid, p: Pdid, t: u64) -> bool
-    ensures { λ r. ⌜ r ≡ someGrants (now (rows .entry)) (m .0) (p .0) t ⌝ }
+pub fn some_row_grants(rows: &[Row], m: Source, p: Pdid, t: u64) -> bool
+    ensures { λ r. ⌜ r ≡ someGrants (now (rows .entry)) (m .mdid .0) (m .simulated) (p .0) t ⌝ }
 {
     let mut i: usize = 0;
     while i < rows.len() {
@@ -218,24 +234,24 @@ pub fn some_row_grants(rows: &[Row], m: Mdid, p: Pdid, t: u64) -> bool
 }
 
 // The first n rows of an array by value are lent to the search.
-fn in_first(rows: [Row; 32], n: usize, m: Mdid, p: Pdid, t: u64) -> bool
+fn in_first(rows: [Row; 32], n: usize, m: Source, p: Pdid, t: u64) -> bool
     requires { ⌜ n ≤ 32 ⌝ }
-    ensures { λ r. ⌜ r ≡ someGrants (take n rows) (m .0) (p .0) t ⌝ }
+    ensures { λ r. ⌜ r ≡ someGrants (take n rows) (m .mdid .0) (m .simulated) (p .0) t ⌝ }
 {
     some_row_grants(&rows[..n], m, p, t)
 }
 
 // The same for a short sheet: whoever lends an array copies it first, and four rows are copied sooner than 32.
-fn in_few(rows: [Row; 4], n: usize, m: Mdid, p: Pdid, t: u64) -> bool
+fn in_few(rows: [Row; 4], n: usize, m: Source, p: Pdid, t: u64) -> bool
     requires { ⌜ n ≤ 4 ⌝ }
-    ensures { λ r. ⌜ r ≡ someGrants (take n rows) (m .0) (p .0) t ⌝ }
+    ensures { λ r. ⌜ r ≡ someGrants (take n rows) (m .mdid .0) (m .simulated) (p .0) t ⌝ }
 {
     some_row_grants(&rows[..n], m, p, t)
 }
 
 // Whether one of the first n rows grants it: rows behind them grant nothing.
-pub fn in_sheet(rows: [Row; 32], n: usize, m: Mdid, p: Pdid, t: u64) -> bool
-    ensures { λ r. ⌜ r ≡ someGrants (take n rows) (m .0) (p .0) t ⌝ }
+pub fn in_sheet(rows: [Row; 32], n: usize, m: Source, p: Pdid, t: u64) -> bool
+    ensures { λ r. ⌜ r ≡ someGrants (take n rows) (m .mdid .0) (m .simulated) (p .0) t ⌝ }
 {
     if n <= 4 {
         let few = [rows[0], rows[1], rows[2], rows[3]];

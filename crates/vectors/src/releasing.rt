@@ -4,6 +4,7 @@ use message::Pdid;
 use release::Answer;
 use sheet::Row;
 use sheet::SheetAnswer;
+use sheet::Source;
 ghost use Prim.Native.Nat.{_≤_};
 
 // Row R of document 01, ids 7 to 7, 1 to 1, from 100 s to 101 s; and a byte behind it.
@@ -15,6 +16,7 @@ fn row_r() -> [u8; 33] {
 fn row(r: Row) {
     crate::four(r.first_mdid.0, r.last_mdid.0, r.first_pdid.0, r.last_pdid.0);
     crate::four(r.start.seconds, r.start.nanos, r.end.seconds, r.end.nanos);
+    crate::number(r.acquired_only as usize);
 }
 
 // Number and place.
@@ -40,12 +42,18 @@ fn sheet(s: &[u8]) {
     crate::end();
 }
 
-// The first `count` bytes of R and the byte behind it, with this last byte of R.
+// R with this last byte, and the byte behind it.
+fn row_with(last: u8) -> [u8; 33] {
+    let mut r = row_r();
+    wire::put_byte(&mut r, 31, last);
+    r
+}
+
+// The first `count` bytes of R with this last byte and the byte behind it.
 fn sheet_r(last: u8, count: usize)
     requires { ⌜ count ≤ 33 ⌝ }
 {
-    let mut r = row_r();
-    wire::put_byte(&mut r, 31, last);
+    let r = row_with(last);
     sheet(&r[0..count]);
 }
 
@@ -66,14 +74,31 @@ fn two_rows(last: u8) {
     crate::end();
 }
 
-// Whether one of the first `count` rows of R's sheet grants package 1 of a message, at a time in nanoseconds.
-fn granted(count: usize, message: u32, time: u64) {
-    let r = row_r();
+// Whether one of the first `count` rows of the sheet of R with this last byte grants package 1 of a message, at a time in nanoseconds.
+fn granted_in(last: u8, count: usize, m: Source, time: u64) {
+    let r = row_with(last);
     let read = sheet::read_sheet(&r[0..32]);
     let rows = read.rows;
-    let yes = sheet::in_sheet(rows, count, Mdid(message), Pdid(1), time);
-    crate::number(if yes { 1 } else { 0 });
+    crate::number(sheet::in_sheet(rows, count, m, Pdid(1), time) as usize);
     crate::end();
+}
+
+// The same under R, of a message that is not simulated.
+fn granted(count: usize, message: u32, time: u64) {
+    let m = Source {
+        mdid: Mdid(message),
+        simulated: false,
+    };
+    granted_in(0x00, count, m, time);
+}
+
+// And under R with this last byte, of message 7 at 100 s, simulated or not.
+fn granted_by(last: u8, simulated: bool) {
+    let m = Source {
+        mdid: Mdid(7),
+        simulated,
+    };
+    granted_in(last, 1, m, 100_000_000_000);
 }
 
 // Number, place, bytes, messages and packages.
@@ -111,14 +136,23 @@ fn under_r(count: usize, rows: usize, room: usize)
     copied(&m[0..count], &r[0..rows], &mut out[0..room]);
 }
 
+// The copy of M with flags 88, which is simulated, under R with this last byte.
+fn simulated_under(last: u8) {
+    let m = crate::changed(0, 0x10000088);
+    let r = row_with(last);
+    let mut out = [0xEEu8; 44];
+    copied(&m, &r[0..32], &mut out);
+}
+
 pub fn releasing() {
-    // P9, a sheet of 33 bytes, and a spare bit that is not zero.
+    // P9, a sheet of 33 bytes, R for acquired data only, and a spare bit that is not zero.
     sheet_r(0x00, 32);
     sheet_r(0x00, 33);
     sheet_r(0x01, 32);
-    // Two rows are read; where the second is refused, all rows are zero.
-    two_rows(0x00);
+    sheet_r(0x02, 32);
+    // Two rows are read, the second for acquired data only; where the second is refused, all rows are zero.
     two_rows(0x01);
+    two_rows(0x02);
     // R's sheet has one row: none of no rows grants, and above 32 all rows are asked.
     granted(0, 7, 100_000_000_000);
     granted(1, 7, 100_000_000_000);
@@ -128,10 +162,17 @@ pub fn releasing() {
     granted(1, 7, 99_999_999_999);
     granted(1, 7, 100_999_999_999);
     granted(1, 7, 101_000_000_000);
+    // Simulated messages are granted in by R, and not where it is for acquired data only.
+    granted_by(0x00, true);
+    granted_by(0x01, true);
+    granted_by(0x01, false);
     // P1 and P10, measured and written; a buffer of 44 bytes keeps its last four, and one of 39 is ROOM, 40, for writing alone.
     under_r(0, 32, 44);
     under_r(56, 32, 44);
     under_r(56, 32, 39);
+    // M, simulated, under R, and under R for acquired data only.
+    simulated_under(0x00);
+    simulated_under(0x01);
     // A bad sheet is found before a bad recording.
     under_r(1, 33, 39);
 }

@@ -1,6 +1,7 @@
 //! The requests that change the paper's own rules, in their words.
 
-use super::refused;
+use super::{m_with, refused};
+use crate::answers;
 use crate::copy::{self, Copied};
 use crate::damage::damaged;
 use crate::dice::Dice;
@@ -11,6 +12,7 @@ use crate::parse::read_recording;
 use crate::refusal::*;
 use crate::seams::Seam;
 use crate::sheet::{read_sheet, Row};
+use crate::text::release_copy;
 
 #[test]
 fn m_under_r_is_measured_before_it_is_written() {
@@ -110,10 +112,10 @@ fn a_window_without_a_moment_is_a_bad_row() {
 /// No end of a window is later, so no row grants the latest time.
 #[test]
 fn the_latest_time_is_granted_by_no_row() {
-    let latest = super::m_with(16, "FFFFFFFF 3B9AC9FF");
+    let latest = m_with(16, "FFFFFFFF 3B9AC9FF");
     let sheet = pack_sheet(&[everything()]);
     assert_eq!(copy::measure(&latest, &sheet).unwrap().packages, 0);
-    let just_before = super::m_with(16, "FFFFFFFF 3B9AC9FE");
+    let just_before = m_with(16, "FFFFFFFF 3B9AC9FE");
     assert_eq!(copy::measure(&just_before, &sheet).unwrap().packages, 1);
 }
 
@@ -144,6 +146,68 @@ fn a_package_on_the_seam_is_delivered_once() {
         assert!(whole.iter().all(|number| first.contains(number) != second.contains(number)));
     }
     assert!(on_the_seam > 500, "{on_the_seam}");
+}
+
+#[test]
+fn the_lowest_spare_bit_is_for_acquired_data_only() {
+    let acquired = Row { acquired_only: true, ..everything() };
+    let sheet = pack_row(&everything(), 1);
+    assert_eq!(read_sheet(&sheet), Ok(vec![acquired]));
+    assert_eq!(pack_sheet(&[acquired]), sheet);
+    for spare in 2..16 {
+        assert_eq!(read_sheet(&pack_row(&everything(), spare)), refused(ROW, 0));
+    }
+    // R with the bit; flag bit 3 and no other decides.
+    let mut row = row_r();
+    row[31] |= 1;
+    for flags in 0..=0x4F_u8 {
+        if flags & 0x30 == 0 {
+            let message = m_with(3, &format!("{:02X}", 0x80 | flags));
+            let packages = |sheet: &[u8]| copy::measure(&message, sheet).unwrap().packages;
+            assert_eq!(packages(&row), usize::from(flags & 8 == 0));
+            assert_eq!(packages(&row_r()), 1);
+            // Each row is judged by itself.
+            assert_eq!(packages(&[&row[..], &row_r()].concat()), 1);
+        }
+    }
+}
+
+#[test]
+fn a_sheet_has_nine_values_for_each_row() {
+    let rows = [Row { acquired_only: true, ..everything() }, everything()];
+    let told = answers::sheet(&pack_sheet(&rows)).values;
+    assert_eq!(told.len(), 2 + 32 * 9);
+    let ends = u64::from(u32::MAX);
+    assert_eq!(told[..11], [0, 2, 0, ends, 0, ends, 0, 0, ends, 999_999_999, 1]);
+    assert_eq!(told[11..20], [0, ends, 0, ends, 0, 0, ends, 999_999_999, 0]);
+    assert_eq!(told[20..], [0; 270]);
+}
+
+/// With the bit in every row a copy is that of the recording without its
+/// simulated messages, for which the bit changes nothing.
+#[test]
+fn simulated_messages_do_not_count_under_the_bit() {
+    let mut fewer = 0;
+    for case in 0..1_000 {
+        let dice = &mut Dice::new(26, case);
+        let world = World::new(dice);
+        let mut messages = messages(dice, &world);
+        let rows = rows(dice, &targets(&messages));
+        let sheet = |acquired_only: bool| {
+            pack_sheet(&rows.iter().map(|row| Row { acquired_only, ..*row }).collect::<Vec<_>>())
+        };
+        let all = lay_all(&messages).0;
+        messages.retain(|message| message.flags & 1 << 3 == 0);
+        let acquired = lay_all(&messages).0;
+        if all.len() > MOST_BYTES {
+            continue;
+        }
+        let with_bit = release_copy(&all, &sheet(true));
+        assert_eq!(with_bit, release_copy(&acquired, &sheet(true)), "case {case}");
+        assert_eq!(with_bit, release_copy(&acquired, &sheet(false)), "case {case}");
+        fewer += usize::from(with_bit != release_copy(&all, &sheet(false)));
+    }
+    assert!(fewer > 200, "{fewer}");
 }
 
 /// Every kind of bad row is bad, and good rows are good.

@@ -1,4 +1,4 @@
--- `hibernaxo::hibernaxo_sheet` meets its contract: 32 rows of eight values fill the array behind the place and the number of rows.
+-- `hibernaxo::hibernaxo_sheet` meets its contract: 32 rows of nine values fill the array behind the place and the number of rows.
 use Prim.Native.Nat.{ℕ}
 use mathlib.Core.Path.{_≡_, ap}
 use mathlib.Core.List.{List}
