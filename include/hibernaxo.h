@@ -29,7 +29,7 @@ enum hibernaxo_refusal {
     HIBERNAXO_LENGTH = 4,    /* the length is below 24 + 4 W or no multiple of 4: the message */
     HIBERNAXO_CUT = 5,       /* the length is above the bytes left: the message */
     HIBERNAXO_TIME = 6,      /* more than 999,999,999 nanoseconds: the message; 0 in the writer */
-    HIBERNAXO_OPTION = 7,    /* the first bad option, in the writer also one of kind 0x00: the option; 60 for its run above 60 bytes */
+    HIBERNAXO_OPTION = 7,    /* the first bad option, a second 0x86 or 0x87 too, in the writer also one of kind 0x00: the option; 60 for its run above 60 bytes */
     HIBERNAXO_FRAGMENT = 8,  /* flag bits 5-4 are not 00: the message */
     HIBERNAXO_STANDARD = 9,  /* flag bit 7 is 1 with no payload, or 0 with one: the message */
     HIBERNAXO_PACKAGE = 10,  /* a package that its header or the bytes left do not allow: the package */
@@ -37,7 +37,8 @@ enum hibernaxo_refusal {
     HIBERNAXO_LARGE = 12,    /* an input, or the writer's message, above 65,536 bytes: 65536 */
     HIBERNAXO_ROOM = 13,     /* the output buffer is too short: the bytes needed */
     HIBERNAXO_MARKER = 14,   /* fewer than 8 bytes, or another marker: 0 */
-    HIBERNAXO_BLOCKS = 15    /* not 1 to 80 whole codeblocks: the burst's length */
+    HIBERNAXO_BLOCKS = 15,   /* not 1 to 80 whole codeblocks: the burst's length */
+    HIBERNAXO_COUNT = 17     /* option 0x87 says another number than that of the packages: the message; 0 in the writer */
 };
 
 /* How many values each function stores. */
@@ -56,7 +57,7 @@ enum hibernaxo_refusal {
 #define HIBERNAXO_ROWS 32
 #define HIBERNAXO_ROW_VALUES 9
 
-/* Reads the header of the message at the start of bytes (refusals 12 and 1 to 7).
+/* Reads the header of the message at the start of bytes (refusals 12 and 1 to 7; its packages are not counted).
  * values: [1] the option word count W, [2] flag bits 7 to 0, [3] message id, [4] sequence number, [5] length,
  * [6] seconds, [7] nanoseconds, [8] where the option run begins in bytes, [9] how many bytes it has. */
 uint32_t hibernaxo_header(const uint8_t *bytes, size_t bytes_length, uint64_t values[HIBERNAXO_HEADER_VALUES]);
@@ -67,17 +68,18 @@ uint32_t hibernaxo_header(const uint8_t *bytes, size_t bytes_length, uint64_t va
  * [8] the walk's next place: behind the package and its padding if one is shown, otherwise at, on a refusal too. */
 uint32_t hibernaxo_package(const uint8_t *run, size_t run_length, size_t at, uint64_t values[HIBERNAXO_PACKAGE_VALUES]);
 
-/* Checks a recording (refusals 12 and 1 to 10). values: [1] messages, [2] packages. */
+/* Checks a recording (refusals 12, 1 to 10 and 17). values: [1] messages, [2] packages. */
 uint32_t hibernaxo_check(const uint8_t *recording, size_t recording_length, uint64_t values[HIBERNAXO_CHECK_VALUES]);
 
-/* Writes one message into out (refusals 12, 6, 7, 10 and 13, places within the run named). Of flags, bits 6, 3, 2, 1
- * and 0 count. options holds whole options, none of kind 0x00; packages is a run of packages, whose reserved bytes
- * and padding are not looked at. values: [1] bytes written; bytes of out behind them stay. */
+/* Writes one message into out (refusals 12, 6, 7, 10, 17 and 13, places within the run named). Of flags, bits 6, 3,
+ * 2, 1 and 0 count. options holds whole options, none of kind 0x00 and at most one each of 0x86 and 0x87; packages is
+ * a run of packages, whose reserved bytes and padding are not looked at. An option 0x87 says how many they are.
+ * values: [1] bytes written; bytes of out behind them stay. */
 uint32_t hibernaxo_write(uint8_t flags, uint32_t message_id, uint32_t sequence, uint32_t seconds, uint32_t nanoseconds,
                          const uint8_t *options, size_t options_length, const uint8_t *packages, size_t packages_length,
                          uint8_t *out, size_t out_length, uint64_t values[HIBERNAXO_WRITE_VALUES]);
 
-/* Writes the clean form of the first message of bytes into out (refusals 12, 1 to 10 and 13).
+/* Writes the clean form of the first message of bytes into out (refusals 12, 1 to 10, 17 and 13).
  * values: [1] bytes written; bytes of out behind them stay. */
 uint32_t hibernaxo_clean(const uint8_t *bytes, size_t bytes_length, uint8_t *out, size_t out_length,
                          uint64_t values[HIBERNAXO_CLEAN_VALUES]);
@@ -87,13 +89,13 @@ uint32_t hibernaxo_clean(const uint8_t *bytes, size_t bytes_length, uint8_t *out
  * end seconds, end nanoseconds, and 1 where the row grants acquired data only, nothing in simulated messages. */
 uint32_t hibernaxo_sheet(const uint8_t *sheet, size_t sheet_length, uint64_t values[HIBERNAXO_SHEET_VALUES]);
 
-/* Measures the copy of a recording under an order sheet, and writes nothing (refusals 11, 12 and 1 to 10).
+/* Measures the copy of a recording under an order sheet, and writes nothing (refusals 11, 12, 1 to 10 and 17).
  * values: [1] bytes, [2] messages, [3] packages that the copy has. */
 uint32_t hibernaxo_copy_measure(const uint8_t *recording, size_t recording_length, const uint8_t *sheet,
                                 size_t sheet_length, uint64_t values[HIBERNAXO_COPY_MEASURE_VALUES]);
 
-/* Writes the copy of a recording under an order sheet into out (refusals 11, 12, 1 to 10 and 13). A buffer of the
- * measured bytes has room. values: [1] bytes, [2] messages, [3] packages written; bytes of out behind them stay. */
+/* Writes the copy of a recording under an order sheet into out (refusals 11, 12, 1 to 10, 17 and 13). A buffer of
+ * the measured bytes has room. values: [1] bytes, [2] messages, [3] packages written; bytes of out behind them stay. */
 uint32_t hibernaxo_copy_write(const uint8_t *recording, size_t recording_length, const uint8_t *sheet,
                               size_t sheet_length, uint8_t *out, size_t out_length,
                               uint64_t values[HIBERNAXO_COPY_WRITE_VALUES]);

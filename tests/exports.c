@@ -305,16 +305,25 @@ static void checks(void)
     s = m_with(28, "0011"); /* P8 with L = 17 */
     CALL(hibernaxo_check, s.bytes, s.length, values(HIBERNAXO_CHECK_VALUES));
     EXPECT(HIBERNAXO_PACKAGE, 44);
+    /* an option that says two packages, as there are; and P7's, which says one */
+    s = input("12000080 00000007 00000005 00000040 00000064 00000000 87060000 000200FF"
+              "00000001 000D0000 00000000 AA112233 00000002 00105500 0000000A DEADBEEF");
+    CALL(hibernaxo_check, s.bytes, s.length, values(HIBERNAXO_CHECK_VALUES));
+    EXPECT(HIBERNAXO_OK, 0, 1, 2);
+    s = input("12000080 00000007 00000005 00000040 00000064 00000000 87060000 000100FF"
+              "00000001 000D0000 00000000 AA112233 00000002 00105500 0000000A DEADBEEF");
+    CALL(hibernaxo_check, s.bytes, s.length, values(HIBERNAXO_CHECK_VALUES));
+    EXPECT(HIBERNAXO_COUNT, 0);
 }
 
 static void writing(void)
 {
-    struct lent none = zeros(0), options = input("87060000 0001"), run = input(PACKAGES), bad = m_with(28, "000B"), long_run = zeros(61);
+    struct lent none = zeros(0), options = input("87060000 0002"), miscounted = input("87060000 0001"), run = input(PACKAGES), bad = m_with(28, "000B"), long_run = zeros(61);
     struct lent out = buffer(72);
     CALL(hibernaxo_write, 0x4F, 0x01020304, 0x05060708, 0x090A0B0C, 0x0D0E0F10, options.bytes, options.length, run.bytes, run.length,
          out.bytes, out.length, values(HIBERNAXO_WRITE_VALUES));
     EXPECT(HIBERNAXO_OK, 0, 64);
-    WRITTEN(out, "120000CF 01020304 05060708 00000040 090A0B0C 0D0E0F10 87060000 00010000"
+    WRITTEN(out, "120000CF 01020304 05060708 00000040 090A0B0C 0D0E0F10 87060000 00020000"
                  "00000001 000D0000 00000000 AA000000 00000002 00100000 0000000A DEADBEEF");
     out = buffer(24);
     CALL(hibernaxo_write, 0, 7, 5, 100, 0, none.bytes, none.length, none.bytes, none.length, out.bytes, out.length, values(HIBERNAXO_WRITE_VALUES));
@@ -334,6 +343,8 @@ static void writing(void)
     EXPECT(HIBERNAXO_OPTION, 60);
     CALL(hibernaxo_write, 0, 7, 5, 100, 0, none.bytes, none.length, bad.bytes + 24, bad.length - 24, out.bytes, out.length, values(HIBERNAXO_WRITE_VALUES));
     EXPECT(HIBERNAXO_PACKAGE, 0);
+    CALL(hibernaxo_write, 0, 7, 5, 100, 0, miscounted.bytes, miscounted.length, run.bytes, run.length, out.bytes, out.length, values(HIBERNAXO_WRITE_VALUES));
+    EXPECT(HIBERNAXO_COUNT, 0);
     KEPT(out);
 }
 

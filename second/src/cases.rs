@@ -3,7 +3,7 @@
 use crate::burst::{CODEBLOCK_BYTES, MARKER_BYTES};
 use crate::damage::{any_fault, change_blindly, damaged, with_faults};
 use crate::dice::Dice;
-use crate::drafts::{bad_draft, good_draft, OwnDraft};
+use crate::drafts::{bad_draft, draft_of, good_draft, OwnDraft};
 use crate::generate::*;
 use crate::judge::Judge;
 use crate::lent::room_for;
@@ -180,15 +180,12 @@ fn write_case(judge: &mut Judge, dice: &mut Dice) {
 
 /// A good draft whose message takes 65,536 bytes or a little less.
 fn longest_draft(dice: &mut Dice) -> OwnDraft {
-    let mut draft = good_draft(dice);
-    let options = draft.options.len().div_ceil(4) * 4;
-    let room = MOST_BYTES - 24 - options - 4 * dice.below(3);
     let world = World::new(dice);
-    let mut filling = package(dice, &world);
-    filling.data = dice.bytes(room - 12);
-    draft.packages.clear();
-    filling.lay(&mut draft.packages);
-    draft
+    let mut longest = message(dice, &world, 1);
+    let options = longest.options.len().div_ceil(4) * 4;
+    let room = MOST_BYTES - 24 - options - 4 * dice.below(3);
+    longest.packages[0].data = dice.bytes(room - 12);
+    draft_of(dice, &longest)
 }
 
 fn clean_case(judge: &mut Judge, dice: &mut Dice) {

@@ -79,8 +79,8 @@ fn measured(entries: &[Entry]) -> Copied {
     }
 }
 
-/// The released list of a recording under a sheet: ROW, LARGE, 1 to 10 for the
-/// first bad message.
+/// The released list of a recording under a sheet: ROW, LARGE, 1 to 10 and
+/// COUNT for the first bad message.
 fn released<'a>(recording: &'a [u8], sheet: &[u8]) -> Result<Vec<Entry<'a>>, Refusal> {
     let rows = read_sheet(sheet)?;
     Ok(released_list(&read_recording(recording)?, &rows))

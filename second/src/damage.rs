@@ -2,7 +2,12 @@
 
 use crate::dice::Dice;
 use crate::generate::{lay_all, option_run, DirtyMessage};
+use crate::parse::{count_place, options_end, COUNT_KIND, OFFSET_KIND};
 use crate::refusal::*;
+
+/// The refusal numbers of a message's checks, in their order.
+pub const FAULTS: [u32; 11] =
+    [SHORT, VERSION, TYPE, LENGTH, CUT, TIME, OPTION, FRAGMENT, STANDARD, PACKAGE, COUNT];
 
 /// Lays a recording and damages it: one to three aimed faults, often two in
 /// one message, or blind changes.
@@ -23,15 +28,15 @@ pub fn damaged(dice: &mut Dice, mut messages: Vec<DirtyMessage>) -> Vec<u8> {
     with_faults(dice, &mut messages, &faults)
 }
 
-/// A refusal number from 1 to 10; options and packages can go wrong in more
+/// The refusal number of some check; options and packages can go wrong in more
 /// ways than the others.
 pub fn any_fault(dice: &mut Dice) -> u32 {
-    let any = dice.within(1, 10) as u32;
+    let any = dice.pick(&FAULTS);
     dice.pick(&[any, any, any, OPTION, PACKAGE])
 }
 
-/// Lays a recording with these faults: the index of a message and a refusal
-/// number from 1 to 10.
+/// Lays a recording with these faults: the index of a message and the refusal
+/// number of a check.
 pub fn with_faults(
     dice: &mut Dice,
     messages: &mut [DirtyMessage],
@@ -40,6 +45,7 @@ pub fn with_faults(
     for &(index, number) in faults {
         match number {
             OPTION => break_options(dice, &mut messages[index]),
+            COUNT => break_count(dice, &mut messages[index]),
             PACKAGE if messages[index].packages.is_empty() || dice.chance(1, 4) => {
                 let words = dice.within(1, 2);
                 messages[index].tail = dice.bytes(4 * words);
@@ -163,8 +169,8 @@ fn break_package(dice: &mut Dice, bytes: &mut [u8], place: usize, message: &Dirt
 
 /// Puts an option against the rules behind some good ones.
 fn break_options(dice: &mut Dice, message: &mut DirtyMessage) {
-    let mut options = option_run(dice, 24);
-    match dice.below(6) {
+    let mut options = option_run(dice, 24, message.packages.len());
+    match dice.below(8) {
         0 => {
             // A kind from 0x80 up is the very last option byte.
             while options.len() % 4 != 3 {
@@ -182,6 +188,16 @@ fn break_options(dice: &mut Dice, message: &mut DirtyMessage) {
             let data = dice.bytes(4 * words - options.len());
             options.extend(data);
         }
+        3 | 4 => {
+            // A second option of a kind that stands at most once; both are good.
+            let kind = dice.pick(&[OFFSET_KIND, COUNT_KIND]);
+            for _ in 0..2 {
+                options.extend([kind, 6]);
+                options.extend((message.packages.len() as u32).to_be_bytes());
+                options.extend(vec![1; dice.below(3)]);
+            }
+            options.resize(options.len().next_multiple_of(4), 0);
+        }
         _ => {
             let (kind, length) = bad_option(dice);
             options.extend([kind, length as u8]);
@@ -192,6 +208,28 @@ fn break_options(dice: &mut Dice, message: &mut DirtyMessage) {
     }
     message.options = options;
     message.behind_options.clear();
+}
+
+/// Gives the message a package count that is wrong, often by one.
+fn break_count(dice: &mut Dice, message: &mut DirtyMessage) {
+    // An earlier fault may have broken the options.
+    if options_end(&message.options) != Ok(message.options.len()) {
+        return;
+    }
+    let place = count_place(&message.options).unwrap_or_else(|| {
+        if message.options.len() > 54 {
+            message.options.clear();
+        }
+        let end = message.options.len();
+        message.options.extend([COUNT_KIND, 6, 0, 0, 0, 0]);
+        message.behind_options = vec![0; message.options.len().next_multiple_of(4) - end - 6];
+        end
+    });
+    let packages = message.packages.len() as u32;
+    let spread = dice.word();
+    let choices = [packages + 1, packages.wrapping_sub(1), packages ^ 1 << dice.below(32), spread];
+    let count = dice.pick(&choices).to_be_bytes();
+    message.options[place + 2..place + 6].copy_from_slice(&count);
 }
 
 /// A kind and a good length of 6 bytes or more.

@@ -68,6 +68,7 @@ pub const CHANGED: [(&str, Change); 12] = [
     ("flag bit 1", |_, message, _| message.flags ^= 1 << 1),
     ("package left out", |_, message, at| {
         message.packages.remove(at);
+        message.recount();
     }),
 ];
 
@@ -155,6 +156,7 @@ fn change_withheld_number(dice: &mut Dice, scene: &Scene) -> Vec<DirtyMessage> {
             packages.extend(scene.withheld_package(dice, message));
         }
         message.packages = packages;
+        message.recount();
     }
     messages
 }
@@ -224,7 +226,7 @@ fn change_reserved_bytes(dice: &mut Dice, scene: &Scene) -> Vec<DirtyMessage> {
 
 fn change_options(dice: &mut Dice, scene: &Scene) -> Vec<DirtyMessage> {
     each(scene, |message| {
-        message.options = option_run(dice, 60);
+        message.options = option_run(dice, 60, message.packages.len());
         message.behind_options = behind_options(dice, &scene.world, message.options.len());
     })
 }

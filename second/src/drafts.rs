@@ -2,6 +2,7 @@
 
 use crate::dice::Dice;
 use crate::generate::{message, package_count, DirtyMessage, World};
+use crate::parse::{count_place, options_end, COUNT_KIND, OFFSET_KIND};
 use crate::render::Draft;
 
 /// A draft that owns its two runs.
@@ -59,7 +60,7 @@ pub fn good_draft(dice: &mut Dice) -> OwnDraft {
 pub fn bad_draft(dice: &mut Dice) -> OwnDraft {
     let mut draft = good_draft(dice);
     for _ in 0..dice.pick(&[1, 1, 2, 3]) {
-        match dice.below(10) {
+        match dice.below(12) {
             0 => make_large(dice, &mut draft),
             1 => {
                 let late = dice.within(1_000_000_000, u32::MAX as usize) as u32;
@@ -71,6 +72,7 @@ pub fn bad_draft(dice: &mut Dice) -> OwnDraft {
                 draft.options.resize(dice.within(61, 70), fill);
             }
             3..=5 => break_options(dice, &mut draft.options),
+            6 | 7 => miscount(dice, &mut draft.options),
             _ => break_packages(dice, &mut draft.packages),
         }
     }
@@ -90,8 +92,25 @@ fn make_large(dice: &mut Dice, draft: &mut OwnDraft) {
     }
 }
 
+/// Gives a good option run a package count that is seldom the right one.
+fn miscount(dice: &mut Dice, options: &mut Vec<u8>) {
+    // An earlier fault may have broken the run.
+    if options_end(options) != Ok(options.len()) {
+        return;
+    }
+    let place = count_place(options).unwrap_or_else(|| {
+        if options.len() > 54 {
+            options.clear();
+        }
+        options.extend([COUNT_KIND, 6, 0, 0, 0, 0]);
+        options.len() - 6
+    });
+    let count = dice.pick(&[0, 1, 2, 3, 256, u32::MAX]).to_be_bytes();
+    options[place + 2..place + 6].copy_from_slice(&count);
+}
+
 fn break_options(dice: &mut Dice, options: &mut Vec<u8>) {
-    match dice.below(5) {
+    match dice.below(6) {
         // A kind from 0x80 up ends the run.
         0 => options.push(0x80 | dice.byte()),
         // The option would be whole only with the zero fill.
@@ -101,7 +120,13 @@ fn break_options(dice: &mut Dice, options: &mut Vec<u8>) {
             options.push(0x00);
             options.extend(dice.some_bytes(0, 3));
         }
+        // A second option of a kind that stands at most once.
         3 => {
+            let kind = dice.pick(&[OFFSET_KIND, COUNT_KIND]);
+            options.truncate(40);
+            options.extend([kind, 6, 0, 0, 0, 1, kind, 6, 0, 0, 0, 1]);
+        }
+        4 => {
             let kind = 0x80 + dice.below(9) as u8;
             let length = dice.pick(&[0, 1, 2, 5, 7, 17, 19, 33, 61, 255]);
             options.extend([kind, length]);

@@ -2,6 +2,7 @@
 //! byte and bit that a reading has to ignore.
 
 use crate::dice::Dice;
+use crate::parse::{count_place, COUNT_KIND, OFFSET_KIND};
 
 /// A package with its reserved byte and the padding that it may need.
 #[derive(Clone, Debug)]
@@ -81,6 +82,14 @@ impl DirtyMessage {
         let mut out = Vec::new();
         self.lay(&mut out);
         out
+    }
+
+    /// Sets the package count, where the options have one, to the packages.
+    pub fn recount(&mut self) {
+        if let Some(at) = count_place(&self.options) {
+            let count = self.packages.len() as u32;
+            self.options[at + 2..at + 6].copy_from_slice(&count.to_be_bytes());
+        }
     }
 }
 
@@ -190,9 +199,14 @@ pub fn package(dice: &mut Dice, world: &World) -> DirtyPackage {
     }
 }
 
-/// One option with a length byte that keeps the rules, of at most `most` bytes.
-fn long_option(dice: &mut Dice, most: usize) -> Vec<u8> {
-    let kind = if dice.chance(1, 2) { 0x80 + dice.below(8) as u8 } else { 0x80 | dice.byte() };
+/// One option with a length byte that keeps the rules, of at most `most` bytes,
+/// in a message of so many packages.
+fn long_option(dice: &mut Dice, most: usize, packages: usize) -> Vec<u8> {
+    let kind = match dice.below(4) {
+        0 => dice.pick(&[OFFSET_KIND, COUNT_KIND]),
+        1 => 0x80 + dice.below(8) as u8,
+        _ => 0x80 | dice.byte(),
+    };
     let length = match kind {
         0x82..=0x84 => {
             let spread = dice.within(3, 32);
@@ -209,6 +223,10 @@ fn long_option(dice: &mut Dice, most: usize) -> Vec<u8> {
         return Vec::new();
     }
     let mut option = vec![kind, length as u8];
+    if kind == COUNT_KIND {
+        option.extend((packages as u32).to_be_bytes());
+        return option;
+    }
     // Zero bytes inside an option's data end nothing.
     for _ in 2..length {
         option.push(if dice.chance(1, 3) { 0 } else { dice.byte() });
@@ -216,9 +234,11 @@ fn long_option(dice: &mut Dice, most: usize) -> Vec<u8> {
     option
 }
 
-/// Whole options, none of kind 0x00, of at most `most` bytes together.
-pub fn option_run(dice: &mut Dice, most: usize) -> Vec<u8> {
+/// Whole options, none of kind 0x00, of at most `most` bytes together, for a
+/// message of so many packages.
+pub fn option_run(dice: &mut Dice, most: usize, packages: usize) -> Vec<u8> {
     let mut run = Vec::new();
+    let mut kinds = Vec::new();
     let goal = match dice.below(6) {
         0 | 1 => 0,
         2 => most,
@@ -229,7 +249,13 @@ pub fn option_run(dice: &mut Dice, most: usize) -> Vec<u8> {
         if dice.chance(1, 3) {
             run.push(1 + dice.below(0x7F) as u8);
         } else {
-            run.extend(long_option(dice, left));
+            let option = long_option(dice, left, packages);
+            let second = option.first().is_some_and(|kind| kinds.contains(kind));
+            // Only these two stand at most once.
+            if !(second && [OFFSET_KIND, COUNT_KIND].contains(&option[0])) {
+                kinds.extend(option.first());
+                run.extend(option);
+            }
         }
     }
     run
@@ -247,7 +273,7 @@ pub fn behind_options(dice: &mut Dice, world: &World, run: usize) -> Vec<u8> {
 }
 
 pub fn message(dice: &mut Dice, world: &World, packages: usize) -> DirtyMessage {
-    let options = option_run(dice, 60);
+    let options = option_run(dice, 60, packages);
     DirtyMessage {
         reserved_nibble: world.dirt(dice) & 15,
         reserved_flags: world.dirt(dice),

@@ -2,19 +2,19 @@
 
 use crate::answers::{Answer, Given};
 use crate::lent::Lent;
-use crate::refusal::NAMES;
+use crate::refusal::{NAMES, NUMBERS};
 use std::fmt::Write;
 
 /// The exports, and the refusal numbers that each of them can give.
 pub const EXPORTS: [(&str, &[u32]); 10] = [
     ("header", &[1, 2, 3, 4, 5, 6, 7, 12]),
     ("package", &[10, 12]),
-    ("check", &[1, 2, 3, 4, 5, 6, 7, 8, 9, 10, 12]),
-    ("write", &[6, 7, 10, 12, 13]),
-    ("clean", &[1, 2, 3, 4, 5, 6, 7, 8, 9, 10, 12, 13]),
+    ("check", &[1, 2, 3, 4, 5, 6, 7, 8, 9, 10, 12, 17]),
+    ("write", &[6, 7, 10, 12, 13, 17]),
+    ("clean", &[1, 2, 3, 4, 5, 6, 7, 8, 9, 10, 12, 13, 17]),
     ("sheet", &[11]),
-    ("copy_measure", &[1, 2, 3, 4, 5, 6, 7, 8, 9, 10, 11, 12]),
-    ("copy_write", &[1, 2, 3, 4, 5, 6, 7, 8, 9, 10, 11, 12, 13]),
+    ("copy_measure", &[1, 2, 3, 4, 5, 6, 7, 8, 9, 10, 11, 12, 17]),
+    ("copy_write", &[1, 2, 3, 4, 5, 6, 7, 8, 9, 10, 11, 12, 13, 17]),
     ("randomize", &[12]),
     ("open_burst", &[12, 14, 15]),
 ];
@@ -32,7 +32,7 @@ pub struct Judge {
     /// How many cases of each kind there were, in the order of the first.
     kinds: Vec<(String, u64)>,
     /// For each export, how often each number was its answer.
-    reached: [[u64; 16]; EXPORTS.len()],
+    reached: [[u64; NUMBERS]; EXPORTS.len()],
     differences: u64,
     trace: bool,
 }
@@ -43,7 +43,7 @@ impl Judge {
             case: String::new(),
             cases: 0,
             kinds: Vec::new(),
-            reached: [[0; 16]; EXPORTS.len()],
+            reached: [[0; NUMBERS]; EXPORTS.len()],
             differences: 0,
             trace,
         }
@@ -136,7 +136,7 @@ impl Judge {
             println!("  {count:>7}  {kind}");
         }
         println!("calls of each export, and how often each number was its answer:");
-        let mut sums = [0; 16];
+        let mut sums = [0; NUMBERS];
         let mut missed = Vec::new();
         for ((name, numbers), reached) in EXPORTS.iter().zip(&self.reached) {
             let calls: u64 = reached.iter().sum();
@@ -148,16 +148,15 @@ impl Judge {
                 }
             }
             println!("{line}");
-            for &number in *numbers {
-                if reached[number as usize] == 0 {
-                    missed
-                        .push(format!("{name} never answered {number} {}", NAMES[number as usize]));
+            for (number, refusal) in NAMES {
+                if numbers.contains(&number) && reached[number as usize] == 0 {
+                    missed.push(format!("{name} never answered {number} {refusal}"));
                 }
             }
         }
         println!("refusal numbers reached:");
-        for (number, count) in sums.iter().enumerate().skip(1) {
-            println!("  {count:>7}  {number} {}", NAMES[number]);
+        for (number, refusal) in NAMES {
+            println!("  {:>7}  {number} {refusal}", sums[number as usize]);
         }
         for line in &missed {
             println!("not reached: {line}.");

@@ -2,7 +2,7 @@
 //! paper's own numbers. They are part of every run.
 
 use crate::burst::{CODEBLOCK_BYTES, MARKER_BYTES};
-use crate::damage::with_faults;
+use crate::damage::{with_faults, FAULTS};
 use crate::demand::{changed, withheld, CHANGED, WITHHELD};
 use crate::dice::Dice;
 use crate::drafts::{draft_of, OwnDraft};
@@ -223,8 +223,8 @@ fn sizes(limits: &mut Limits) {
 
 /// Each pair of faults in one message, and in two messages both ways round.
 fn faults(limits: &mut Limits) {
-    for first in 1..=10 {
-        for second in 1..=10 {
+    for first in FAULTS {
+        for second in FAULTS {
             let world = World::new(&mut limits.dice);
             let mut same = Vec::new();
             for _ in 0..3 {
@@ -267,6 +267,31 @@ fn options(limits: &mut Limits) {
             *byte = 0x80;
         }
         limits.message(&m_with_options(&last));
+    }
+    // A kind twice, next to each other and apart, and the second one behind a zero.
+    for kind in [0x86, 0x87, 0x85, 0x80] {
+        let one = [kind, 6, 0, 0, 0, 2];
+        let other_kind = [kind ^ 1, 6, 0, 0, 0, 2];
+        for options in [
+            [&one[..], &one].concat(),
+            [&one[..], &[1, 1, 1], &one, &[1]].concat(),
+            [&one[..], &other_kind, &one, &[0, 0]].concat(),
+            [&one[..], &other_kind].concat(),
+            [&one[..], &[0], &one, &[0xFF; 3]].concat(),
+            // Bad in two ways, and a bad option before it.
+            [&one[..], &[kind, 5, 0, 0, 0, 2]].concat(),
+            [&one[..], &[0x88, 1], &one, &[1, 1]].concat(),
+        ] {
+            limits.message(&m_with_options(&options));
+        }
+    }
+    // Counts near that of M, and the same numbers as an offset.
+    for number in [0, 1, 2, 3, 258, 65_538, 1 << 24 | 2, 2 << 24, u32::MAX] {
+        let number = number.to_be_bytes();
+        limits.message(&m_with_options(&[&[1, 0x87, 6], &number[..], &[0]].concat()));
+        limits.message(&m_with_options(&[&[0x86, 6], &number[..], &[1, 1]].concat()));
+        // In another option's data a count counts nothing.
+        limits.message(&m_with_options(&[&[0x80, 8, 0x87, 6], &number[..]].concat()));
     }
     // Zero ends the options at every place; what follows it is not read.
     for at in 0..12 {
@@ -346,7 +371,27 @@ fn writer(limits: &mut Limits) {
     {
         limits.write(&OwnDraft { options: options.to_vec(), ..draft.clone() }, size + 8);
     }
+    counted_writes(limits, &draft, size);
     longest_writes(limits, &draft);
+}
+
+/// Two packages are there; COUNT comes after PACKAGE and before ROOM.
+fn counted_writes(limits: &mut Limits, draft: &OwnDraft, size: usize) {
+    for count in [0, 1, 2, 3, 1 << 24 | 2, u32::MAX] {
+        let options = [&[0x87, 6], &count.to_be_bytes()[..]].concat();
+        let counted = OwnDraft { options, ..draft.clone() };
+        for room in [0, size + 7, size + 8] {
+            limits.write(&counted, room);
+        }
+        limits.write(&OwnDraft { packages: Vec::new(), ..counted.clone() }, 32);
+        let broken = [&draft.packages[..], &[0]].concat();
+        limits.write(&OwnDraft { packages: broken, ..counted.clone() }, size + 8);
+        limits.write(&OwnDraft { nanoseconds: u32::MAX, ..counted.clone() }, size + 8);
+        let twice = [&counted.options[..], &[1], &counted.options].concat();
+        limits.write(&OwnDraft { options: twice, ..counted }, size + 16);
+    }
+    let twice = vec![0x86, 6, 0, 0, 0, 2, 1, 0x86, 6, 0, 0, 0, 2];
+    limits.write(&OwnDraft { options: twice, ..draft.clone() }, size + 16);
 }
 
 /// Messages of exactly 65,536 bytes, with and without options.
@@ -546,7 +591,7 @@ fn measuring(limits: &mut Limits) {
             limits.measured_then_written(&lay_all(&messages).0, &all);
         }
     }
-    for fault in 1..=10 {
+    for fault in FAULTS {
         let mut messages = Vec::new();
         for _ in 0..3 {
             messages.push(message(&mut limits.dice, &world, 2));

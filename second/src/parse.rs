@@ -15,6 +15,11 @@ pub const PLAYBACK_FLAG: u8 = 0b0100_0000;
 pub const FRAGMENT_FLAGS: u8 = 0b0011_0000;
 pub const SIMULATED_FLAG: u8 = 0b0000_1000;
 
+/// The options that a message has at most once: a fragment's byte offset and
+/// the package count. Both have a number of 32 bits.
+pub const OFFSET_KIND: u8 = 0x86;
+pub const COUNT_KIND: u8 = 0x87;
+
 /// What reading a header alone tells.
 #[derive(Clone, Debug, PartialEq, Eq)]
 pub struct Header<'a> {
@@ -127,18 +132,40 @@ fn header_at(input: &[u8], place: usize) -> Result<Header<'_>, Refusal> {
 /// Where the options end: at the first option of kind 0x00, or behind them
 /// all. The error is the place of the first option against the rules.
 pub fn options_end(options: &[u8]) -> Result<usize, usize> {
+    let mut once = Vec::new();
     let mut at = 0;
     while at < options.len() {
         let kind = options[at];
         if kind == 0x00 {
             return Ok(at);
         }
-        at += match option_length(kind, &options[at + 1..]) {
-            Some(length) => length,
-            None => return Err(at),
-        };
+        let length = option_length(kind, &options[at + 1..]).ok_or(at)?;
+        if [OFFSET_KIND, COUNT_KIND].contains(&kind) {
+            if once.contains(&kind) {
+                return Err(at);
+            }
+            once.push(kind);
+        }
+        at += length;
     }
     Ok(at)
+}
+
+/// Where the package count stands in a good option run, if it is there.
+pub fn count_place(run: &[u8]) -> Option<usize> {
+    let mut at = 0;
+    while at < run.len() {
+        if run[at] == COUNT_KIND {
+            return Some(at);
+        }
+        at += option_length(run[at], &run[at + 1..])?;
+    }
+    None
+}
+
+/// Does the package count, where a good option run has one, equal the packages?
+pub fn counts(run: &[u8], packages: usize) -> bool {
+    count_place(run).is_none_or(|at| number_at(run, at + 2) as usize == packages)
 }
 
 /// The length of the option of this kind, if it keeps the rules; `rest` are
@@ -198,7 +225,7 @@ pub fn packages_of(run: &[u8]) -> Result<Vec<Package<'_>>, usize> {
     Ok(packages)
 }
 
-/// Checks 1 to 10 for the message at this place.
+/// Checks 1 to 10 and COUNT for the message at this place.
 pub fn message_at(input: &[u8], place: usize) -> Result<Placed<'_>, Refusal> {
     let header = header_at(input, place)?;
     let payload_place = place + HEADER_BYTES + 4 * header.option_words;
@@ -211,6 +238,7 @@ pub fn message_at(input: &[u8], place: usize) -> Result<Placed<'_>, Refusal> {
         Ok(packages) => packages,
         Err(bad) => return refuse(PACKAGE, payload_place + bad),
     };
+    ask(counts(header.option_run, packages.len()), COUNT, place)?;
     let message = Message {
         flags: header.flags & RECORD_FLAGS,
         message_id: header.message_id,
@@ -223,8 +251,8 @@ pub fn message_at(input: &[u8], place: usize) -> Result<Placed<'_>, Refusal> {
     Ok(Placed { message, payload_place, end })
 }
 
-/// Visits each message of a recording: LARGE, then 1 to 10 for the first bad
-/// message.
+/// Visits each message of a recording: LARGE, then 1 to 10 and COUNT for the
+/// first bad message.
 fn each_message<'a>(recording: &'a [u8], mut visit: impl FnMut(Placed<'a>)) -> Result<(), Refusal> {
     ask_not_large(recording.len())?;
     let mut place = 0;

@@ -15,11 +15,30 @@ pub const LARGE: u32 = 12;
 pub const ROOM: u32 = 13;
 pub const MARKER: u32 = 14;
 pub const BLOCKS: u32 = 15;
+/// In the order of checks it stands directly after PACKAGE.
+pub const COUNT: u32 = 17;
 
-/// The name of each refusal number; 0 is success.
-pub const NAMES: [&str; 16] = [
-    "success", "SHORT", "VERSION", "TYPE", "LENGTH", "CUT", "TIME", "OPTION", "FRAGMENT",
-    "STANDARD", "PACKAGE", "ROW", "LARGE", "ROOM", "MARKER", "BLOCKS",
+/// Every refusal number is below this; 0 is success.
+pub const NUMBERS: usize = 18;
+
+/// The refusal numbers and their names.
+pub const NAMES: [(u32, &str); 16] = [
+    (SHORT, "SHORT"),
+    (VERSION, "VERSION"),
+    (TYPE, "TYPE"),
+    (LENGTH, "LENGTH"),
+    (CUT, "CUT"),
+    (TIME, "TIME"),
+    (OPTION, "OPTION"),
+    (FRAGMENT, "FRAGMENT"),
+    (STANDARD, "STANDARD"),
+    (PACKAGE, "PACKAGE"),
+    (ROW, "ROW"),
+    (LARGE, "LARGE"),
+    (ROOM, "ROOM"),
+    (MARKER, "MARKER"),
+    (BLOCKS, "BLOCKS"),
+    (COUNT, "COUNT"),
 ];
 
 /// Every input, sheets apart, has at most so many bytes.

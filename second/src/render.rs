@@ -77,7 +77,7 @@ fn render_if_room(message: &Message, buffer: &mut [u8]) -> Result<usize, Refusal
     Ok(render(message, buffer))
 }
 
-/// The writer: LARGE, TIME, OPTION, PACKAGE, ROOM.
+/// The writer: LARGE, TIME, OPTION, PACKAGE, COUNT, ROOM.
 pub fn write(draft: &Draft, buffer: &mut [u8]) -> Result<usize, Refusal> {
     // Two lengths of slices and the header can not pass 2^128.
     let words = (draft.options.len() as u128).div_ceil(4);
@@ -94,6 +94,7 @@ pub fn write(draft: &Draft, buffer: &mut [u8]) -> Result<usize, Refusal> {
         Ok(packages) => packages,
         Err(bad) => return refuse(PACKAGE, bad),
     };
+    ask(counts(draft.options, packages.len()), COUNT, 0)?;
     let message = Message {
         flags: draft.flags & RECORD_FLAGS,
         message_id: draft.message_id,

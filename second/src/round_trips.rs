@@ -6,16 +6,19 @@ use crate::dice::Dice;
 use crate::drafts::{draft_of, OwnDraft};
 use crate::generate::*;
 use crate::judge::{dump, Judge};
-use crate::orders::{pack_sheet, rows, targets};
+use crate::orders::{everything, pack_sheet, rows, targets};
+use crate::parse::{COUNT_KIND, OFFSET_KIND};
+use crate::refusal::{COUNT, OPTION};
 use crate::side_by_side;
 
 type Trip = fn(&mut Judge, &mut Dice);
 
-pub const TRIPS: [(&str, Trip); 6] = [
+pub const TRIPS: [(&str, Trip); 7] = [
     ("written, then read, is the record", written_then_read),
     ("the clean form's clean form is itself", cleaned_twice),
     ("a read message's parts, written, are its clean form", parts_written),
     ("clean forms are equal exactly if records are", equal_clean_forms),
+    ("a package count passes exactly if it counts", counted),
     ("the copy's copy is itself", copied_twice),
     ("randomized twice is as before", randomized_twice),
 ];
@@ -158,6 +161,7 @@ fn other_record(dice: &mut Dice, message: &DirtyMessage) -> DirtyMessage {
         7 if !other.packages.is_empty() => {
             let at = dice.below(other.packages.len());
             other.packages.remove(at);
+            other.recount();
         }
         _ => other.nanoseconds = if other.nanoseconds == 0 { 1 } else { other.nanoseconds - 1 },
     }
@@ -184,6 +188,56 @@ fn equal_clean_forms(judge: &mut Judge, dice: &mut Dice) {
     judge.claim(forms[0] != forms[2], || {
         format!("  two records have one clean form\n{}", dump(&forms[0], 0))
     });
+}
+
+/// The refusal of one message in every function that counts its packages: as
+/// checked, cleaned, measured for a copy and written, with the place.
+fn refusals(judge: &mut Judge, dice: &mut Dice, message: &DirtyMessage) -> [(u32, u64); 4] {
+    let bytes = message.laid();
+    let check = side_by_side::check(judge, dice, &bytes);
+    let (clean, _) = side_by_side::clean(judge, dice, &bytes, bytes.len());
+    let (copy, _) =
+        side_by_side::copy(judge, dice, &bytes, &pack_sheet(&[everything()]), bytes.len());
+    let draft = draft_of(dice, message);
+    let (write, _) = side_by_side::write(judge, dice, &draft, bytes.len());
+    [
+        (check.number, check.values[0]),
+        (clean.number, clean.values[0]),
+        (copy.number, copy.values[0]),
+        (write.number, write.values[0]),
+    ]
+}
+
+/// The number of packages that checking reports passes as their count, and no
+/// other does; a header is read all the same. A second count or offset is a bad
+/// option for a header too.
+fn counted(judge: &mut Judge, dice: &mut Dice) {
+    let mut message = any_message(dice);
+    message.options.clear();
+    message.behind_options.clear();
+    let checked = side_by_side::check(judge, dice, &message.laid());
+    let packages = checked.values[2] as u32;
+    let spread = dice.word();
+    let counts = [packages, packages + 1, packages.wrapping_sub(1), packages ^ 1 << 31, spread];
+    for count in counts {
+        let number = count.to_be_bytes();
+        message.options = [&[1, COUNT_KIND, 6], &number[..], &[2]].concat();
+        let expected = if count == packages { (0, 0) } else { (COUNT, 0) };
+        let header = side_by_side::header(judge, dice, &message.laid());
+        let good = refusals(judge, dice, &message) == [expected; 4] && header.number == 0;
+        judge.claim(good, || {
+            format!("  {packages} packages counted as {count}\n{}", dump(&message.laid(), 0))
+        });
+    }
+    for kind in [OFFSET_KIND, COUNT_KIND] {
+        let option = [&[kind, 6], &packages.to_be_bytes()[..]].concat();
+        message.options = [&option[..], &[1], &option, &[2, 3, 4]].concat();
+        let header = side_by_side::header(judge, dice, &message.laid());
+        let read = (OPTION, 24 + 7);
+        let good = refusals(judge, dice, &message) == [read, read, read, (OPTION, 7)]
+            && (header.number, header.values[0]) == read;
+        judge.claim(good, || format!("  two of {kind:02X} hex\n{}", dump(&message.laid(), 0)));
+    }
 }
 
 /// The copy is a recording that passes, with as many messages and packages as

@@ -8,7 +8,8 @@ use lib.ListN.{length, take, drop, length-append}
 use lib.Seq.{sets}
 use borrow.Rule.Slice.PartMut.{putMid}
 use Rattle.rules.specs.Bytes.{put32, pad, padded, oneIfAny}
-use Rattle.rules.specs.Packages.{cut, packageOf, pieceOf, Fills, none, more}
+use Rattle.rules.specs.Items.{Fills, none, more}
+use Rattle.rules.specs.Packages.{cut, packageOf, pieceOf, Piece}
 use Rattle.rules.specs.Writer.{write, Draft, drafted}
 use Rattle.rules.proofs.Cut as Cut
 use Rattle.rules.proofs.Pieces.{length-padded}
@@ -19,7 +20,7 @@ use Rattle.compose.proofs.Stores.{sets-part}
 use Rattle.compose.proofs.Run.{piece-length}
 
 -- the pieces written again are as long as the run
-pub piecesWritten-length : {cs : List (List ℕ)} {s : List ℕ} → Fills cs s → length (piecesWritten cs) ≡ length s
+pub piecesWritten-length : {cs : List (List ℕ)} {s : List ℕ} → Fills Piece cs s → length (piecesWritten cs) ≡ length s
 piecesWritten-length none = refl
 piecesWritten-length (more {c = c} {cs = cs} {s = s} h r) =
     omega (arith, length-append (pieceOf (packageOf c)) (piecesWritten cs), length-append c s, piece-length c h, piecesWritten-length r)
@@ -67,14 +68,14 @@ pub message-stored : (d : Draft) (b : List ℕ) → Cuts (d .packages)
     ≡ sets b 0 (messageOf d (cut 0 (d .packages)))
 unfolding payloadOf messageOf write drafted
 message-stored d b w =
-    let f : Fills (w .pieces) (d .packages) = Cut.sound 0 0 (d .packages) (w .cuts) in
+    let f : Fills Piece (w .pieces) (d .packages) = Cut.sound 0 0 (d .packages) (w .cuts) in
     glued (headerOf (wordsOf d) (flagsOf d) (d .id) (d .sequence) (sizeOf d) (d .seconds) (d .nanos)) (padded (d .options)) (payloadOf (cut 0 (d .packages))) b (pad (length (d .options))) refl (length-padded (d .options))
     ∙ rw (w .cuts, any-filled f, piecesWritten-length f, length-padded (d .options))
 
 pub message-length : (d : Draft) → Cuts (d .packages) → length (messageOf d (cut 0 (d .packages))) ≡ sizeOf d
 unfolding messageOf write drafted
 message-length d w =
-    let f : Fills (w .pieces) (d .packages) = Cut.sound 0 0 (d .packages) (w .cuts) in
+    let f : Fills Piece (w .pieces) (d .packages) = Cut.sound 0 0 (d .packages) (w .cuts) in
     rw (w .cuts) (omega (arith, length-append (padded (d .options)) (piecesWritten (w .pieces)), length-padded (d .options), piecesWritten-length f))
 
 -- the same where the packages are stored in a part that is lent

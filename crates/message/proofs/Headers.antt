@@ -27,16 +27,9 @@ module _ (p : ℕ) (s : List ℕ) (h : Head) where
   pub gate-open : good tt ≡ checksOneToSix p s h → Sound s h
   gate-open e = sound p s h (sym e)
 
-  pub run-behind : {o : Outcome ℕ} (f : ℕ) → f ≡ 24 + 4 * h .words → good tt ≡ checksOneToSix p s h → o ≡ optionRunFrom 0 (p + 24) 0 (take (f - 24) (drop 24 s)) → o ≡ optionRunLength p s h
+  pub run-behind : {o : Outcome ℕ} (f : ℕ) → f ≡ 24 + 4 * h .words → good tt ≡ checksOneToSix p s h → o ≡ optionRunFrom [] 0 (p + 24) 0 (take (f - 24) (drop 24 s)) → o ≡ optionRunLength p s h
   unfolding optionRunLength
   run-behind f ef e r = sym (after _ _ (sym e) (sym (rw ef at r)))
-
-  pub opened-is : {n : ℕ} → p + length s < 4294967296 → good n ≡ optionRunLength p s h → Opened s h p
-  unfolding optionRunLength
-  opened-is l e =
-      let (a, b) = came-after _ _ (sym e) in
-      let d = sound p s h a in
-      record { version = d .version; kind = d .kind; least = d .least; most = d .most; place = l }
 
   -- the option run lies in the option bytes
   pub run-inside : {n : ℕ} → good n ≡ optionRunLength p s h → 24 + n ≤ length s
@@ -44,8 +37,15 @@ module _ (p : ℕ) (s : List ℕ) (h : Head) where
   run-inside e =
       let (a, b) = came-after _ _ (sym e) in
       let d = sound p s h a in
-      let r = run-ends 0 (p + 24) 0 (part 24 (payloadStart h) s) (omega arith) b in
+      let r = run-ends [] 0 (p + 24) 0 (part 24 (payloadStart h) s) (omega arith) b in
       omega (arith, r .most, d .least, d .most, d .long, length-take (payloadStart h - 24) (drop 24 s), length-drop 24 s)
+
+  pub opened-is : {n : ℕ} → p + length s < 4294967296 → good n ≡ optionRunLength p s h → Opened s h p n
+  unfolding optionRunLength
+  opened-is l e =
+      let (a, b) = came-after _ _ (sym e) in
+      let d = sound p s h a in
+      record { version = d .version; kind = d .kind; least = d .least; most = d .most; run = run-inside e; place = l }
 
 -- a header alone
 module _ (s : List ℕ) where

@@ -1,4 +1,4 @@
--- Checks 8 to 10, the message at a place, and the loop over a recording.
+-- Checks 8 to 10 and COUNT, the message at a place, and the loop over a recording.
 use Prim.Native.Nat.{ℕ, suc, _+_, _-_, _*_, _/_, _%_, _≤_, _<_}
 use mathlib.Core.Path.{_≡_, refl, sym, ap, subst, _∙_}
 use mathlib.Core.Logic.{⊎-elim}
@@ -9,10 +9,12 @@ use borrow.Author.Tests.{lt-ltb, le-ltb, ltb-true, ltb-false}
 use lib.Dec.{ltb}
 use lib.ListN.{length, take, drop, length-drop, length-append, length-map}
 use lib.Seq.{drop-cons, length-take-le}
-use Rattle.rules.specs.Outcome.{Outcome, good, bad, _>>_, _>>=_, SHORT, LARGE, FRAGMENT, STANDARD}
+use Rattle.rules.specs.Outcome.{Outcome, good, bad, refuse, _>>_, _>>=_, SHORT, LARGE, FRAGMENT, STANDARD, COUNT}
 use Rattle.rules.specs.Bytes.{at, part, oneIfAny}
-use Rattle.rules.specs.Packages.{Fills, none, more, cut, packageOf}
-use Rattle.rules.specs.Message.{Head, head, payloadStart, payload, checksOneToSix, optionRunLength, checksEightAndNine, checksOneToNine, checksOneToTen, Message, recordOf, message, recording}
+use Rattle.rules.specs.Items.{Fills, none, more}
+use Rattle.rules.specs.Options.{countSaid, differs}
+use Rattle.rules.specs.Packages.{cut, packageOf, Piece}
+use Rattle.rules.specs.Message.{Head, head, payloadStart, payload, checksOneToSix, optionRunLength, checksEightAndNine, checksOneToNine, checksOneToTen, everyCheck, Message, recordOf, message, recording}
 use Rattle.rules.specs.Reading.{packagesOf, checkedRecording}
 use Rattle.rules.proofs.Outcomes.{pass, halt, pass-last, halt-last, after, step, stop, stepped, stop-before, good-inj, good≢bad, refused-step}
 use Rattle.rules.proofs.Passed.{passes}
@@ -51,7 +53,7 @@ module _ (p : ℕ) (s : List ℕ) (h : Head) (n : ℕ) where
   unfolding spotBehindRun checksEightAndNine
   fragment a = sym (stop-before _ _ (halt _ _ _ _ (isnt (h .flags / 16 % 4) 0 a)))
 
-  module _ (a : h .flags / 16 % 4 ≡ 0) (o : Opened s h p) (f z : ℕ) (ef : f ≡ 24 + 4 * h .words) (ez : z ≡ h .size) (b : ℕ) (eb : b ≡ oneIfBytes f z) where
+  module _ (a : h .flags / 16 % 4 ≡ 0) (o : Opened s h p n) (f z : ℕ) (ef : f ≡ 24 + 4 * h .words) (ez : z ≡ h .size) (b : ℕ) (eb : b ≡ oneIfBytes f z) where
     some-payload : oneIfAny (part (payloadStart h) (h .size) s) ≡ b
     some-payload = any-part s (payloadStart h) (h .size) (o .most) ∙ rw (← ef, ← ez) (sym eb)
 
@@ -72,12 +74,20 @@ module _ (p : ℕ) (s : List ℕ) (h : Head) (n : ℕ) where
           let g : cutCount (p + payloadStart h) (part (payloadStart h) (h .size) s) ≡ bad m q = sym (rw (ef, ez) at e) in
           sym (after _ _ fits (stop _ _ (uncut (p + payloadStart h) (part (payloadStart h) (h .size) s) g)))
 
-      pub whole : (k : ℕ) → good k ≡ cutCount (p + f) (take (z - f) (drop f s)) → good (record { head = h; run = n; payload = p + f; next = p + z; packages = k }) ≡ spotBehindRun p s h n
-      unfolding spotBehindRun cutCount messageSpot
-      whole k e =
-          let (cs, g, d) = stepped _ _ (sym (rw (ef, ez) at e)) in
-          let w : length cs ≡ k = good-inj d in
-          sym (after _ _ fits (step _ _ g (rw (w, ef, ez))))
+      module _ (k : ℕ) (e : good k ≡ cutCount (p + f) (take (z - f) (drop f s))) where
+        pub miscounted : differs (countSaid (take (24 + n - 24) (drop 24 s))) k ≡ true → bad COUNT p ≡ spotBehindRun p s h n
+        unfolding spotBehindRun cutCount
+        miscounted x =
+            let (cs, g, d) = stepped _ _ (sym (rw (ef, ez) at e)) in
+            let w : length cs ≡ k = good-inj d in
+            sym (after _ _ fits (step _ _ g (halt _ _ _ _ (rw w x))))
+
+        pub whole : differs (countSaid (take (24 + n - 24) (drop 24 s))) k ≡ false → good (record { head = h; run = n; payload = p + f; next = p + z; packages = k }) ≡ spotBehindRun p s h n
+        unfolding spotBehindRun cutCount messageSpot
+        whole x =
+            let (cs, g, d) = stepped _ _ (sym (rw (ef, ez) at e)) in
+            let w : length cs ≡ k = good-inj d in
+            sym (after _ _ fits (step _ _ g (pass _ _ _ _ (rw w x) (rw (w, ef, ez)))))
 
 -- the header as it is told
 pub told : (h : Raw) (n : ℕ) (r : Header) (x y k : ℕ) {o : Outcome MessageSpot} → h .version ≡ 1 → h .kind ≡ 0 → r ≡ headerOf h n
@@ -85,27 +95,39 @@ pub told : (h : Raw) (n : ℕ) (r : Header) (x y k : ℕ) {o : Outcome MessageSp
     → toldMessage (messageRead.Message (record { header = r; payload = x; next = y; packages = k })) ≡ o
 told h n r x y k v w er g = rw er (rw (v, w) at g)
 
--- ---- checks 1 to 10
-regroup : (c : Outcome (Unit {0})) (o : Outcome (List (List ℕ))) (n : ℕ) (f : ℕ × List (List ℕ) → MessageSpot)
-    → (((c >> good n) >>= λ (m : ℕ). o >>= λ (cs : List (List ℕ)). good (m, cs)) >>= λ (r : ℕ × List (List ℕ)). good (f r)) ≡ (c >> (o >>= λ (cs : List (List ℕ)). good (f (n, cs))))
-unfolding _>>_ _>>=_
-regroup (good tt) (good cs) n f = refl
-regroup (good tt) (bad x y) n f = refl
-regroup (bad x y) o n f = refl
+-- ---- every check
+
+-- COUNT is found of the spot or of the pieces alike
+after-count : (b : Bool) (p : ℕ) (n : ℕ) (cs : List (List ℕ)) (f : ℕ × List (List ℕ) → MessageSpot)
+    → ((refuse b COUNT p >> good (n, cs)) >>= λ (r : ℕ × List (List ℕ)). good (f r)) ≡ (refuse b COUNT p >> good (f (n, cs)))
+unfolding refuse _>>_ _>>=_
+after-count true p n cs f = refl
+after-count false p n cs f = refl
+
+module _ (p : ℕ) (s : List ℕ) (h : Head) where
+  -- what is told of a message by what checks 1 to 9 have come to, and by its cut
+  abbrev spotOf : Outcome ℕ → Outcome (List (List ℕ)) → Outcome MessageSpot
+  spotOf o c =
+      ((o >>= λ (n : ℕ). c >>= λ (cs : List (List ℕ)). good (n, cs)) >>= λ (r : ℕ × List (List ℕ)). (refuse (differs (countSaid (part 24 (24 + r .0) s)) (length (r .1))) COUNT p >> good (r .0, r .1)))
+      >>= λ (r : ℕ × List (List ℕ)). good (messageSpot p h r)
+
+  regroup : (c : Outcome (Unit {0})) (o : Outcome (List (List ℕ))) (n : ℕ) → spotOf (c >> good n) o
+      ≡ (c >> (o >>= λ (cs : List (List ℕ)). refuse (differs (countSaid (part 24 (24 + n) s)) (length cs)) COUNT p >> good (messageSpot p h (n, cs))))
+  unfolding _>>_ _>>=_
+  regroup (good tt) (good cs) n = after-count (differs (countSaid (part 24 (24 + n) s)) (length cs)) p n cs (messageSpot p h)
+  regroup (good tt) (bad x y) n = refl
+  regroup (bad x y) o n = refl
 
 module _ (p : ℕ) (s : List ℕ) (h : Raw) (eh : headOf h ≡ head s) where
   pub not-open : {n q : ℕ} → bad n q ≡ optionRunLength p s (headOf h) → bad n q ≡ messageHere p s
-  unfolding messageHere checksOneToTen checksOneToNine
-  not-open e = sym (stop _ _ (stop _ _ (stop _ _ (rw (← eh) (sym e)))))
-
-  abbrev spotOf : Outcome ℕ → Outcome MessageSpot
-  spotOf o = (o >>= λ (n : ℕ). cut (p + payloadStart (head s)) (payload s (head s)) >>= λ (cs : List (List ℕ)). good (n, cs)) >>= λ (r : ℕ × List (List ℕ)). good (messageSpot p (head s) r)
+  unfolding messageHere everyCheck checksOneToTen checksOneToNine
+  not-open e = sym (stop _ _ (stop _ _ (stop _ _ (stop _ _ (rw (← eh) (sym e))))))
 
   pub framing : (n : ℕ) {o : Outcome MessageSpot} → good n ≡ optionRunLength p s (headOf h) → o ≡ spotBehindRun p s (headOf h) n → o ≡ messageHere p s
-  unfolding messageHere checksOneToTen checksOneToNine spotBehindRun
+  unfolding messageHere everyCheck checksOneToTen checksOneToNine spotBehindRun
   framing n e f =
       let g : optionRunLength p s (head s) ≡ good n = rw (← eh) (sym e) in
-      (rw eh at f) ∙ sym (ap spotOf (step _ _ g refl) ∙ regroup _ _ _ _)
+      (rw eh at f) ∙ sym (ap (λ (o : Outcome ℕ). spotOf p s (head s) o (cut (p + payloadStart (head s)) (payload s (head s)))) (step _ _ g refl) ∙ regroup p s (head s) _ _ _)
 
 -- ---- the message at a place of a recording
 module _ (s : List ℕ) (p : ℕ) where
@@ -115,10 +137,10 @@ module _ (s : List ℕ) (p : ℕ) where
 
   module _ (a : length s ≤ 65536) where
     pub behind : length s < p → bad SHORT p ≡ messageAt s p
-    unfolding messageAt messageHere checksOneToTen checksOneToNine optionRunLength
+    unfolding messageAt messageHere everyCheck checksOneToTen checksOneToNine optionRunLength
     behind b =
         let e : checksOneToSix p (drop p s) (head (drop p s)) ≡ bad SHORT p = sym (short p (drop p s) (head (drop p s)) (omega (arith, length-drop p s))) in
-        sym (pass _ _ _ _ (le-ltb 65536 (length s) a) (stop _ _ (stop _ _ (stop _ _ (stop-before _ _ e)))))
+        sym (pass _ _ _ _ (le-ltb 65536 (length s) a) (stop _ _ (stop _ _ (stop _ _ (stop _ _ (stop-before _ _ e))))))
 
     pub here : {o : Outcome MessageSpot} → o ≡ messageHere p (take (length s - p) (drop p s)) → o ≡ messageAt s p
     unfolding messageAt messageHere
@@ -127,7 +149,7 @@ module _ (s : List ℕ) (p : ℕ) where
 -- ---- the loop over a recording
 
 -- pieces that fill a payload: each has 12 bytes at least
-pub fill-least : {cs : List (List ℕ)} {s : List ℕ} → Fills cs s → 12 * length cs ≤ length s
+pub fill-least : {cs : List (List ℕ)} {s : List ℕ} → Fills Piece cs s → 12 * length cs ≤ length s
 fill-least none = omega arith
 fill-least (more {c = c} {cs = cs} {s = s} q r) = omega (arith, q .least, q .whole, fill-least r, length-append c s)
 

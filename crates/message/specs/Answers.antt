@@ -1,17 +1,17 @@
 -- What the answers of `message` stand for, and what its inner functions promise.
-use Prim.Native.Nat.{ℕ, _+_, _*_, _≤_, _<_}
+use Prim.Native.Nat.{ℕ, suc, _+_, _-_, _*_, _≤_, _<_}
 use mathlib.Core.Path.{_≡_}
-use mathlib.Core.Bool.{true, false}
+use mathlib.Core.Bool.{Bool, true, false}
 use mathlib.Core.List.{List}
 use mathlib.Core.Option.{Option, none, some}
 use lib.Dec.{ltb, eqb}
 use lib.ListN.{length}
 use denote.Ref.{RefT}
-use Rattle.rules.specs.Outcome.{Outcome, good, _>>_, _>>=_, Told}
-use Rattle.rules.specs.Bytes.{at, half, pad}
-use Rattle.rules.specs.Options.{optionSize, optionFits}
+use Rattle.rules.specs.Outcome.{Outcome, good, refuse, _>>_, _>>=_, Told, COUNT}
+use Rattle.rules.specs.Bytes.{at, half, pad, part}
+use Rattle.rules.specs.Options.{optionSize, optionFits, countSaid, differs}
 use Rattle.rules.specs.Packages.{packageFits, cut}
-use Rattle.rules.specs.Message.{Head, head, payloadStart, payload, checksEightAndNine, checksOneToTen}
+use Rattle.rules.specs.Message.{headerBytes, Head, head, payloadStart, payload, checksEightAndNine, everyCheck}
 use Rattle.rules.specs.Reading.{MessageSpot, messageSpot}
 use Rattle.rules.specs.Walk.{PackageSpot}
 use Rattle.refusal.specs.Numbers.{numberOf, refused}
@@ -25,6 +25,9 @@ use Rattle.message.specs.declared.Count.{Count}
 use Rattle.message.specs.declared.Count.the-variants as count
 use Rattle.message.specs.declared.Opt.{Opt}
 use Rattle.message.specs.declared.Opt.the-variants as opt
+use Rattle.message.specs.declared.Seen.{Seen}
+use Rattle.message.specs.declared.Said.{Said}
+use Rattle.message.specs.declared.Said.the-variants as said
 use Rattle.message.specs.declared.Piece.{Piece}
 use Rattle.message.specs.declared.Piece.the-variants as pieces
 use Rattle.message.specs.declared.HeaderRead.{HeaderRead}
@@ -79,6 +82,34 @@ optionHere o = elim (eqb (at o 0) 0) [
   | false ↦ elim (optionFits o) [ true ↦ opt.Takes (optionSize o) | false ↦ opt.Bad ]
 ]
 
+-- an option of kind k would be a second 0x86 or 0x87
+unfoldable pub secondBy : Seen → ℕ → Bool
+secondBy seen k = elim (eqb k 0x86) [ true ↦ seen .offset | false ↦ elim (eqb k 0x87) [ true ↦ seen .count | false ↦ false ] ]
+
+-- with an option of kind k
+unfoldable pub withKind : Seen → ℕ → Seen
+withKind seen k = elim (eqb k 0x86) [
+  | true ↦ record { offset = true; count = seen .count }
+  | false ↦ elim (eqb k 0x87) [ true ↦ record { offset = seen .offset; count = true } | false ↦ seen ]
+]
+
+-- what stands at the start of option bytes, if a second one is none
+abbrev pub unlessSecond : Bool → Opt → Opt
+unlessSecond second opt.Ends = opt.Ends
+unlessSecond second (opt.Takes n) = elim second [ true ↦ opt.Bad | false ↦ opt.Takes n ]
+unlessSecond second opt.Bad = opt.Bad
+
+unfoldable pub optionNext : Seen → List ℕ → Opt
+optionNext seen o = unlessSecond (secondBy seen (at o 0)) (optionHere o)
+
+-- how far the option at the start of o reaches, by its length alone
+unfoldable pub optionStep : List ℕ → ℕ
+optionStep o = suc (optionSize o - 1)
+
+abbrev pub toldSaid : Said → Option ℕ
+toldSaid said.Nothing = none
+toldSaid (said.Number c) = some c
+
 -- what the package at the start of s takes
 unfoldable pub pieceHere : List ℕ → Piece
 pieceHere s = elim (packageFits s) [ true ↦ pieces.Takes (pad (half s 4)) | false ↦ pieces.Bad ]
@@ -93,12 +124,13 @@ cutCount p s = do
 unfoldable pub oneIfBytes : ℕ → ℕ → ℕ
 oneIfBytes a e = elim (ltb a e) [ true ↦ 1 | false ↦ 0 ]
 
--- what checks 1 to 7 leave known of the message at the start of s, which stands at place p
-pub record Opened (s : List ℕ) (h : Head) (p : ℕ) : Type 0 where
+-- what checks 1 to 7 leave known of the message at the start of s, which stands at place p and has an option run of n bytes
+pub record Opened (s : List ℕ) (h : Head) (p n : ℕ) : Type 0 where
   pub version : h .version ≡ 1
   pub kind : h .kind ≡ 0
   pub least : 24 + 4 * h .words ≤ h .size
   pub most : h .size ≤ length s
+  pub run : 24 + n ≤ length s
   pub place : p + length s < 4294967296
 
 -- ---- a header alone
@@ -152,17 +184,18 @@ packageNumbers (packageRead.Refused r) = record { number = numberOf (r .why); pl
 
 -- ---- a message in a recording
 
--- checks 8 to 10, behind an option run of n bytes
+-- checks 8 to 10 and COUNT, behind an option run of n bytes
 unfoldable pub spotBehindRun : ℕ → List ℕ → Head → ℕ → Outcome MessageSpot
 spotBehindRun p s h n = do
   checksEightAndNine p s h
   cs ← cut (p + payloadStart h) (payload s h)
+  refuse (differs (countSaid (part headerBytes (headerBytes + n) s)) (length cs)) COUNT p
   good (messageSpot p h (n, cs))
 
 -- the message at the start of s, which stands at place p
 unfoldable pub messageHere : ℕ → List ℕ → Outcome MessageSpot
 messageHere p s = do
-  r ← checksOneToTen p s (head s)
+  r ← everyCheck p s (head s)
   good (messageSpot p (head s) r)
 
 abbrev pub spotOfMessage : Message → MessageSpot

@@ -3,6 +3,7 @@ use refusal::Refusal;
 use refusal::Why;
 ghost use mathlib.Core.Path.{_≡_};
 ghost use mathlib.Core.Bool.{true};
+ghost use mathlib.Core.List.{[]};
 ghost use Prim.Native.Nat.{_+_, _*_, _/_, _<_};
 ghost use lib.ListN.{length};
 ghost use Rattle.rules.specs.Options as options;
@@ -233,6 +234,61 @@ fn option_here(o: &[u8]) -> Opt
     Opt::Takes(size)
 }
 
+// Whether an option of kind 0x86, and one of kind 0x87, has been seen.
+struct Seen {
+    offset: bool,
+    count: bool,
+}
+
+// Whether an option of kind k would be a second one.
+fn is_second(seen: Seen, k: u8) -> bool
+    ensures { λ r. ⌜ r ≡ spec.secondBy seen k ⌝ }
+{
+    if k == 0x86 {
+        return seen.offset;
+    }
+    if k == 0x87 {
+        return seen.count;
+    }
+    false
+}
+
+// With an option of kind k.
+fn with_kind(seen: Seen, k: u8) -> Seen
+    ensures { λ r. ⌜ r ≡ spec.withKind seen k ⌝ }
+{
+    if k == 0x86 {
+        return Seen {
+            offset: true,
+            count: seen.count,
+        };
+    }
+    if k == 0x87 {
+        return Seen {
+            offset: seen.offset,
+            count: true,
+        };
+    }
+    seen
+}
+
+// What stands at the start of option bytes, behind those seen: a second 0x86 or 0x87 keeps the rules no more than an option with a bad length.
+fn option_next(o: &[u8], seen: Seen) -> Opt
+    ensures { λ r. ⌜ r ≡ spec.optionNext seen (now (o .entry)) ⌝ }
+{
+    let second = is_second(seen, wire::byte_at(o, 0));
+    match option_here(o) {
+        Opt::Takes(n) => {
+            if second {
+                return Opt::Bad;
+            }
+            Opt::Takes(n)
+        }
+        Opt::Ends => Opt::Ends,
+        Opt::Bad => Opt::Bad,
+    }
+}
+
 // A number, or a refusal.
 pub enum Count {
     Number(usize),
@@ -242,12 +298,17 @@ pub enum Count {
 // How long the option run of the option bytes o is, which stand at place p: check 7.
 fn run_of(o: &[u8], p: usize) -> Count
     requires { ⌜ p + length (now o) < 4294967296 ⌝ }
-    ensures { λ r. ⌜ spec.toldCount r ≡ options.optionRunFrom 0 p 0 (now (o .entry)) ⌝ }
+    ensures { λ r. ⌜ spec.toldCount r ≡ options.optionRunFrom [] 0 p 0 (now (o .entry)) ⌝ }
 {
     let mut i = 0;
+    let mut seen = Seen {
+        offset: false,
+        count: false,
+    };
     while i < o.len() {
-        match option_here(&o[i..]) {
+        match option_next(&o[i..], seen) {
             Opt::Takes(n) => {
+                seen = with_kind(seen, wire::byte_at(o, i));
                 i += n;
             }
             Opt::Ends => {
@@ -262,6 +323,40 @@ fn run_of(o: &[u8], p: usize) -> Count
         }
     }
     Count::Number(i)
+}
+
+// How far the option at the start of o reaches, by its length alone: one byte at least.
+fn option_step(o: &[u8]) -> usize
+    ensures { λ r. ⌜ (r ≡ spec.optionStep (now (o .entry))) × (r < 257) ⌝ }
+{
+    if wire::byte_at(o, 0) < 0x80 {
+        return 1;
+    }
+    let n = wide8(wire::byte_at(o, 1));
+    if n == 0 {
+        return 1;
+    }
+    n
+}
+
+// The number of packages that an option run says, if it has an option 0x87.
+enum Said {
+    Nothing,
+    Number(u32),
+}
+
+fn count_said(o: &[u8]) -> Said
+    ensures { λ r. ⌜ spec.toldSaid r ≡ options.countSaid (now (o .entry)) ⌝ }
+{
+    let mut i = 0;
+    while i < o.len() {
+        let rest = &o[i..];
+        if wire::byte_at(rest, 0) == 0x87 {
+            return Said::Number(wire::word_at(rest, 2));
+        }
+        i += option_step(rest);
+    }
+    Said::Nothing
 }
 
 // Checks 1 to 7 of the message at the start of m, which stands at place p: how long its option run is.
@@ -428,9 +523,19 @@ fn one_if_bytes(a: usize, e: usize) -> u8
     if a < e { 1 } else { 0 }
 }
 
-// Checks 8 to 10 of the message at the start of m, which stands at place p and has passed checks 1 to 7 with an option run of n bytes.
-fn checks_eight_to_ten(m: &[u8], h: Raw, p: usize, n: usize) -> MessageRead
-    requires { ⌜ spec.Opened (now m) (spec.headOf h) p ⌝ }
+// Whether an option run says another number of packages.
+pub fn miscounts(run: &[u8], packages: usize) -> bool
+    ensures { λ r. ⌜ r ≡ options.differs (options.countSaid (now (run .entry))) packages ⌝ }
+{
+    match count_said(run) {
+        Said::Nothing => false,
+        Said::Number(c) => wide32(c) != packages,
+    }
+}
+
+// Checks 8 to 10 and COUNT of the message at the start of m, which stands at place p and has passed checks 1 to 7 with an option run of n bytes.
+fn checks_from_eight(m: &[u8], h: Raw, p: usize, n: usize) -> MessageRead
+    requires { ⌜ spec.Opened (now m) (spec.headOf h) p n ⌝ }
     ensures { λ r. ⌜ spec.toldMessage r ≡ spec.spotBehindRun p (now (m .entry)) (spec.headOf h) n ⌝ }
 {
     if h.flags / 16 % 4 != 0 {
@@ -450,6 +555,13 @@ fn checks_eight_to_ten(m: &[u8], h: Raw, p: usize, n: usize) -> MessageRead
     match packages_of(&m[a..e], p + a) {
         Count::Refused(r) => MessageRead::Refused(r),
         Count::Number(k) => {
+            let end = 24 + n;
+            if miscounts(&m[24..end], k) {
+                return MessageRead::Refused(Refusal {
+                    why: Why::Count,
+                    place: p,
+                });
+            }
             let header = header_of(h, n);
             MessageRead::Message(Message {
                 header,
@@ -461,7 +573,7 @@ fn checks_eight_to_ten(m: &[u8], h: Raw, p: usize, n: usize) -> MessageRead
     }
 }
 
-// Checks 1 to 10 of the message at the start of m, which stands at place p.
+// Every check of the message at the start of m, which stands at place p: 1 to 10, and COUNT.
 fn message_here(m: &[u8], p: usize) -> MessageRead
     requires { ⌜ p + length (now m) < 4294967296 ⌝ }
     ensures { λ r. ⌜ spec.toldMessage r ≡ spec.messageHere p (now (m .entry)) ⌝ }
@@ -469,7 +581,7 @@ fn message_here(m: &[u8], p: usize) -> MessageRead
     let h = raw_of(m);
     match checks_one_to_seven(m, h, p) {
         Count::Refused(r) => MessageRead::Refused(r),
-        Count::Number(n) => checks_eight_to_ten(m, h, p, n),
+        Count::Number(n) => checks_from_eight(m, h, p, n),
     }
 }
 

@@ -20,6 +20,7 @@ pub enum Why {
     Room,
     Marker,
     Blocks,
+    Count,
 }
 
 // Why an input is refused, and at which place.
@@ -48,5 +49,6 @@ pub fn number_of(w: Why) -> u32
         Why::Room => 13,
         Why::Marker => 14,
         Why::Blocks => 15,
+        Why::Count => 17,
     }
 }

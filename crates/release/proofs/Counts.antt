@@ -11,7 +11,7 @@ use lib.Dec.{eqb, ltb}
 use lib.ListN.{length, getD, take, drop, set, replicate, length-append, take-append-drop}
 use lib.Seq.{take-suc, take-suc-set, take-all, getD-set-same, getD-set-other, getD-take, getD-drop, length-take-le}
 use borrow.Author.Tests.{eqb-true, eqb-false, ltb-true, ltb-false}
-use Rattle.rules.specs.Copy.{count}
+use Rattle.rules.specs.Items.{count}
 use Rattle.release.specs.Parts.{Place, oneMore, heldWith}
 
 -- ---- how often a number stands in a list

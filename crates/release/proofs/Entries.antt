@@ -13,10 +13,11 @@ use Rattle.rules.specs.Bytes.{part}
 use Rattle.rules.specs.Packages as rules
 use Rattle.rules.specs.Packages.{cut, packageOf, pieceOf, packageTime}
 use Rattle.rules.specs.Message as messages
-use Rattle.rules.specs.Message.{head, payloadStart, isSimulated, recordBits, checksOneToTen, recordOf, message}
+use Rattle.rules.specs.Message.{head, payloadStart, isSimulated, recordBits, everyCheck, recordOf, message}
 use Rattle.rules.specs.Writer.{write}
 use Rattle.rules.specs.Sheet as rows
-use Rattle.rules.specs.Copy.{granted, Entry, grantedPackages, withEntryOf, released, count, copyMessage, copyBytes, packagesIn}
+use Rattle.rules.specs.Items.{count}
+use Rattle.rules.specs.Copy.{granted, Entry, grantedPackages, withEntryOf, released, copyMessage, copyBytes, packagesIn}
 use Rattle.rules.proofs.Outcomes.{pass, step, stop, passed, stepped, good-inj, good≢bad, refused-step}
 use Rattle.rules.proofs.Cut as Cut
 use Rattle.rules.proofs.Passed.{Passed, passes}
@@ -41,7 +42,7 @@ entryBytes h n (p ∷ ps) = headBytes h n (24 + length (payloadOf (p ∷ ps))) +
 -- a message that was read
 pub record Met (recordingBytes : List ℕ) (k : ℕ) (m : Message) : Type 0 where
   pub r : ℕ × List (List ℕ)
-  pub read : checksOneToTen k (drop k recordingBytes) (head (drop k recordingBytes)) ≡ good r
+  pub read : everyCheck k (drop k recordingBytes) (head (drop k recordingBytes)) ≡ good r
   pub flags : head (drop k recordingBytes) .flags ≡ m .header .flags
   pub id : head (drop k recordingBytes) .id ≡ m .header .id .0
   pub seconds : head (drop k recordingBytes) .seconds ≡ m .header .seconds

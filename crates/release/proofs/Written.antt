@@ -12,7 +12,8 @@ use Rattle.rules.specs.Packages as rules
 use Rattle.rules.specs.Message as messages
 use Rattle.rules.specs.Message.{message, recording}
 use Rattle.rules.specs.Sheet as rows
-use Rattle.rules.specs.Copy.{Entry, withEntryOf, released, count, copyMessages, copyBytes}
+use Rattle.rules.specs.Items.{count}
+use Rattle.rules.specs.Copy.{Entry, withEntryOf, released, copyMessages, copyBytes}
 use Rattle.rules.proofs.Outcomes.{pass, good-inj, good≢bad}
 use Rattle.rules.proofs.Growing.{map-append}
 use Rattle.rules.proofs.Growing.{idOf}

@@ -5,18 +5,20 @@ use mathlib.Core.List.{List, [], _∷_, _++_, map, append-assoc}
 use native.Mathlib.Nat.{add-mul-mod-self-right}
 use native.Mathlib.Omega.{arith}
 use borrow.Author.Tests.{eq-eqb, le-ltb}
-use lib.ListN.{length, drop, length-append}
+use lib.ListN.{length, drop, length-append, length-map}
 use lib.Seq.{take-append-seam, drop-append-seam, drop-drop}
 use Rattle.rules.specs.Outcome.{good}
 use Rattle.rules.specs.Bytes.{at, word, pad, padded, part, join, oneIfAny}
+use Rattle.rules.specs.Options.{countSaid}
 use Rattle.rules.specs.Packages.{Package, cut, pieceOf}
-use Rattle.rules.specs.Message.{Head, head, payloadStart, checksOneToSix, optionRunLength, checksEightAndNine, checksOneToNine, checksOneToTen, Message, recordOf, message}
+use Rattle.rules.specs.Message.{Head, head, payloadStart, checksOneToSix, optionRunLength, checksEightAndNine, checksOneToNine, checksOneToTen, everyCheck, Message, recordOf, message}
 use Rattle.rules.specs.Writer.{write}
 use Rattle.rules.specs.Valid.{Valid}
 use Rattle.rules.proofs.Outcomes.{pass, pass-last, after, step}
 use Rattle.rules.proofs.Numbers.{word-put32}
 use Rattle.rules.proofs.Cut.{complete}
 use Rattle.rules.proofs.Run.{run-fill}
+use Rattle.rules.proofs.Counts.{agrees}
 use Rattle.rules.proofs.Pieces.{length-padded, packages-again, filled, any-pieces, whole-words}
 
 -- the two parts behind a header
@@ -142,7 +144,7 @@ module _ (m : Message) (v : Valid m) (t : List ℕ) where
     run-again =
         after _ _ checksOneToSix-again
         (rw (words4, options-part (write m ++ t) options payload t body)
-        (run-fill 0 0 (p + 24) 0 (m .options) (pad (length (m .options)) - length (m .options)) (omega arith) (omega arith) (v .run)))
+        (run-fill [] 0 0 (p + 24) 0 (m .options) (pad (length (m .options)) - length (m .options)) (omega arith) (omega arith) (v .run)))
 
     cut-again : cut (p + payloadStart header) (part (payloadStart header) (header .size) (write m ++ t)) ≡ good (map pieceOf (m .packages))
     cut-again = rw (words4, payload-part (write m ++ t) options payload t body) (complete (filled (v .packages)) (p + (24 + length options)))
@@ -157,10 +159,14 @@ module _ (m : Message) (v : Valid m) (t : List ℕ) where
     unfolding checksOneToTen checksOneToNine
     checksOneToTen-again = step _ _ (step _ _ run-again (after _ _ checksEightAndNine-again refl)) (step _ _ cut-again refl)
 
+    everyCheck-again : everyCheck p (write m ++ t) header ≡ good (length (m .options), map pieceOf (m .packages))
+    unfolding everyCheck
+    everyCheck-again = step _ _ checksOneToTen-again (pass _ _ _ _ (rw (run-part, length-map) (agrees (countSaid (m .options)) (length (m .packages)) (v .count))) refl)
+
     record-again : recordOf (write m ++ t) header (length (m .options), map pieceOf (m .packages)) ≡ m
     unfolding recordOf
     record-again = rw (kept (m .flags) (oneIfAny (m .packages)) (v .flags), packages-again (v .packages), run-part)
 
     pub message-again : message p (write m ++ t) ≡ good (m, length (write m))
     unfolding message
-    message-again = rw head-again (step _ _ checksOneToTen-again (rw (record-again, length-write)))
+    message-again = rw head-again (step _ _ everyCheck-again (rw (record-again, length-write)))

@@ -1,31 +1,22 @@
 -- A message is read and cleaned by its own bytes: what follows it changes nothing.
-use Prim.Native.Nat.{ℕ, _+_, _-_, _/_, _%_, _≤_, _<_}
+use Prim.Native.Nat.{ℕ, _+_, _-_, _/_, _%_, _≤_}
 use mathlib.Core.Path.{_≡_, refl, ap, _∙_}
-use mathlib.Core.List.{List, _++_}
+use mathlib.Core.List.{List, [], _++_}
 use native.Mathlib.Omega.{arith}
 use borrow.Author.Tests.{le-ltb, eq-eqb}
 use lib.ListN.{length, drop, length-append, length-drop, length-take, List·getD-append}
 use lib.Seq.{take-append-le, drop-append-le}
 use Rattle.rules.specs.Outcome.{good}
-use Rattle.rules.specs.Bytes.{word, part, oneIfAny}
-use Rattle.rules.specs.Message.{head, payloadStart, checksOneToSix, optionRunLength, checksEightAndNine, checksOneToNine, checksOneToTen}
+use Rattle.rules.specs.Bytes.{part, oneIfAny}
+use Rattle.rules.specs.Message.{head, payloadStart, checksOneToSix, optionRunLength, checksEightAndNine, checksOneToNine, checksOneToTen, everyCheck}
 use Rattle.rules.specs.Clean.{cleanBytes, cleanForm}
 use Rattle.rules.proofs.Outcomes.{pass, pass-last, after, step, stepped}
+use Rattle.rules.proofs.Numbers.{word-append}
 use Rattle.rules.proofs.Passed.{Passed, passes}
 use Rattle.rules.proofs.Run.{run-ends}
 
 part-append : (a e : ℕ) (s t : List ℕ) → a ≤ length s → e ≤ length s → part a e (s ++ t) ≡ part a e s
 part-append a e s t l m = rw (drop-append-le a s t l, take-append-le (e - a) (drop a s) t (omega (arith, length-drop a s)))
-
-word-append : (s t : List ℕ) (k : ℕ) → k + 3 < length s → word (s ++ t) k ≡ word s k
-unfolding word
-word-append s t k h =
-    rw (
-      List·getD-append s t 0 k (omega arith),
-      List·getD-append s t 0 (k + 1) (omega arith),
-      List·getD-append s t 0 (k + 2) (omega arith),
-      List·getD-append s t 0 (k + 3) h,
-    )
 
 head-append : (s t : List ℕ) → 24 ≤ length s → head (s ++ t) ≡ head s
 unfolding head
@@ -49,9 +40,9 @@ module _ (p : ℕ) (s t : List ℕ) (r : ℕ × List (List ℕ)) (w : Passed p s
   payload-part : part (payloadStart (head s)) (head s .size) (s ++ t) ≡ part (payloadStart (head s)) (head s .size) s
   payload-part = part-append (payloadStart (head s)) (head s .size) s t (omega (arith, w .header .least, w .header .most)) (w .header .most)
 
-  pub passes-before : checksOneToTen p (s ++ t) (head s) ≡ good r
+  ten-before : checksOneToTen p (s ++ t) (head s) ≡ good r
   unfolding checksOneToTen checksOneToNine optionRunLength checksOneToSix checksEightAndNine
-  passes-before =
+  ten-before =
       step _ _
       (step _ _
       (after _ _
@@ -70,14 +61,21 @@ module _ (p : ℕ) (s t : List ℕ) (r : ℕ × List (List ℕ)) (w : Passed p s
 
   inside : 24 + r .0 ≤ length s
   inside =
-      let e = run-ends 0 (p + 24) 0 (part 24 (payloadStart (head s)) s) (omega arith) (w .options) .most in
+      let e = run-ends [] 0 (p + 24) 0 (part 24 (payloadStart (head s)) s) (omega arith) (w .options) .most in
       omega (arith, e, length-take (payloadStart (head s) - 24) (drop 24 s), length-drop 24 s, w .header .least, w .header .most)
+
+  run-before : part 24 (24 + r .0) (s ++ t) ≡ part 24 (24 + r .0) s
+  run-before = part-append 24 (24 + r .0) s t (w .header .long) inside
+
+  pub passes-before : everyCheck p (s ++ t) (head s) ≡ good r
+  unfolding everyCheck
+  passes-before = step _ _ ten-before (pass _ _ _ _ (rw run-before (w .count)) refl)
 
   pub cleaned-before : cleanBytes (s ++ t) r ≡ cleanBytes s r
   unfolding cleanBytes
   cleaned-before =
       rw (
-        part-append 24 (24 + r .0) s t (w .header .long) inside,
+        run-before,
         part-append 4 12 s t (omega (arith, w .header .long)) (omega (arith, w .header .long)),
         part-append 16 24 s t (omega (arith, w .header .long)) (w .header .long),
         List·getD-append s t 0 0 (omega (arith, w .header .long)),

@@ -5,25 +5,27 @@ use mathlib.Core.List.{List, [], _∷_, map}
 use native.Mathlib.Omega.{arith}
 use borrow.Author.Tests.{le-ltb}
 use lib.ListN.{length, length-append}
-use Rattle.rules.specs.Outcome.{good, _>>=_, _>>_}
+use Rattle.rules.specs.Outcome.{Outcome, good, _>>=_, _>>_}
 use Rattle.rules.specs.Bytes.{part, join}
-use Rattle.rules.specs.Message.{headerBytes, notLarge, head, Message, message, checksOneToNine, checksOneToTen}
+use Rattle.rules.specs.Message.{headerBytes, notLarge, Head, head, optionRunLength, Message, message, checksOneToNine, checksOneToTen, everyCheck}
 use Rattle.rules.specs.Reading.{header, optionRun, packagesOf, checkedRecording}
-use Rattle.rules.specs.Buffer.{fitted}
+use Rattle.rules.specs.Buffer.{fitted, stored}
 use Rattle.rules.specs.Writer.{written, writer}
 use Rattle.rules.specs.Clean.{cleanForm, cleaner}
 use Rattle.rules.specs.Sheet.{Row}
 use Rattle.rules.specs.Copy.{Entry, packagesIn, releasedOf, reported, measurement, roomFor, answered, copy}
 use Rattle.rules.specs.Burst.{randomized, opening, randomizer, opener}
-use Rattle.rules.specs.Claims.{BuffersKept, PremisesMet, CountsChecked, WrittenRead, AcceptedValid, ReadValid, ReadWritten, PartsWritten, WriterWrites, CleanerWrites, RoomRefused, SpotOfRecord, SpotExactly, CleanAlone, CleanTwice, CleanExactly, PackageExactly, PackagePlace, CutExactly, WalkShowsAll, WalkStays, GrantedExactly, NoEmptyWindow, SeamOnce, SeamWhole, AcquiredOnly, Recurrence, BitPeriod, TableEntry, RandomizedTwice, RandomizedByte, BurstExactly, SameCopies, SameMeasurements, DifferentCopies, CountsReleased, MeasuredReleased, MeasuredFirst, SequenceCounted, ReleasedExactly, CopyRead, CopyNotLonger, CopyPlain, OneOutcome, Claims, partsOf}
-use Rattle.rules.proofs.Outcomes.{pass, step, stepped, came-after, good-inj}
+use Rattle.rules.specs.Claims.{BuffersKept, PremisesMet, CountsChecked, OptionsExactly, CountExactly, WrittenRead, AcceptedValid, ReadValid, ReadWritten, PartsWritten, Writes, WholeRun, WriterWrites, CleanerWrites, SpotOfRecord, SpotExactly, CleanAlone, CleanTwice, CleanExactly, PackageExactly, PackagePlace, CutExactly, WalkShowsAll, WalkStays, GrantedExactly, AcquiredOnly, SeamWhole, SeamOnce, NoEmptyWindow, Recurrence, BitPeriod, TableEntry, RandomizedTwice, RandomizedByte, BurstExactly, SameCopies, SameMeasurements, DifferentCopies, CountsReleased, MeasuredReleased, MeasuredFirst, SequenceCounted, ReleasedExactly, CopyRead, CopyNotLonger, CopyPlain, OneOutcome, Claims, partsOf}
+use Rattle.rules.proofs.Outcomes.{pass, passed, step, stepped, came-after, good-inj}
 use Rattle.rules.proofs.Kept.{careful-stored, careful-answered, kept-randomized, kept-opened, writes, roomless}
 use Rattle.rules.proofs.Cut as Cut
-use Rattle.rules.proofs.Passed.{passes}
+use Rattle.rules.proofs.Passed.{sound, passes}
 use Rattle.rules.proofs.Alone as Alone
 use Rattle.rules.proofs.RoundTrip as RoundTrip
-use Rattle.rules.proofs.Writer.{accepts, accepted-valid, parts, parts-written}
-use Rattle.rules.proofs.Refused.{exactly}
+use Rattle.rules.proofs.Writer.{accepts, accepted-valid, parts, parts-written, count-written}
+use Rattle.rules.proofs.Refused.{exactly, count-read, count-right}
+use Rattle.rules.proofs.Wholes.{whole-run-by, option-stopped, fault-at, said-by}
+use Rattle.rules.proofs.Valids.{run-again}
 use Rattle.rules.proofs.Walks.{walks-cut, stays}
 use Rattle.rules.proofs.Granted as Granted
 use Rattle.rules.proofs.Acquired as Acquired
@@ -34,8 +36,8 @@ use Rattle.rules.proofs.Table.{table}
 use Rattle.rules.specs.Edges.{Edges}
 use Rattle.rules.proofs.Edges.{edges}
 use Rattle.rules.proofs.Growing.{copyMessages-snoc, released-append, granted-append, granted-one, granted-none, released-entry, released-none}
-use Rattle.rules.proofs.Interference.{copy-is, copy-roomless, delivered-is, same-list, copy-read, copy-short, copy-plain}
-use Rattle.rules.proofs.Roomless.{never-released}
+use Rattle.rules.proofs.Interference.{copy-is, delivered-is, same-list, copy-read, copy-short, copy-plain}
+use Rattle.rules.proofs.Nevers.{never-released}
 use Rattle.rules.proofs.Measured.{measured-roomless, measured-enough, measured-short, measured-refused, measured-alike}
 use Rattle.rules.proofs.Spots.{of-record, spot-read, spot-refused}
 use native.Mathlib.Nat.{zero-add, add-zero}
@@ -77,15 +79,17 @@ run-is : (s : List ℕ) (n : ℕ) → header s ≡ good (head s, n) → optionRu
 unfolding optionRun
 run-is s n e = rw (e, optionRun)
 
-parts-are : (s : List ℕ) (r : ℕ × List (List ℕ)) → length s ≤ 65536 → checksOneToTen 0 s (head s) ≡ good r → partsOf s (head s) ≡ parts s r
-unfolding checksOneToTen checksOneToNine header
+parts-are : (s : List ℕ) (r : ℕ × List (List ℕ)) → length s ≤ 65536 → everyCheck 0 s (head s) ≡ good r → partsOf s (head s) ≡ parts s r
+unfolding everyCheck checksOneToTen checksOneToNine header
 parts-are s r l q =
-    let (n, p, e) = stepped _ _ q in
+    let (x, q, e) = stepped _ _ q in
+    let (t, e) = passed _ _ _ _ e in
+    let (n, p, q) = stepped _ _ q in
     let (m, o, p) = stepped _ _ p in
     let (f, p) = came-after _ _ p in
-    let (cs, g, e) = stepped _ _ e in
+    let (cs, g, q) = stepped _ _ q in
     let h : header s ≡ good (head s, m) = pass _ _ _ _ (le-ltb 65536 (length s) l) (step _ _ o refl) in
-    let z : m ≡ r .0 = good-inj p ∙ ap (λ (x : ℕ × List (List ℕ)). x .0) (good-inj e) in
+    let z : m ≡ r .0 = good-inj p ∙ ap (λ (x : ℕ × List (List ℕ)). x .0) (good-inj q ∙ good-inj e) in
     rw (run-is s m h, z)
 
 pub parts-give-clean : PartsWritten
@@ -94,21 +98,17 @@ parts-give-clean s b l m n e =
     let (r, q, z) = stepped _ _ e in
     ap written (parts-are s r l q) ∙ parts-written 0 s r b l (passes 0 s (head s) r q) ∙ sym (step _ _ q refl)
 
+-- an outcome, stored: with room and without
+stores : (c : List ℕ) (o : Outcome (List ℕ)) → o ≡ good c → Writes c (λ (buffer : List ℕ). stored buffer (o >>= fitted buffer))
+stores c o e = record { room = λ buffer l. writes buffer c o e l; short = λ buffer l. roomless buffer c o e l }
+
 pub writer-writes : WriterWrites
 unfolding writer
-writer-writes d buffer c e l = writes buffer c (written d) e l
+writer-writes d c e = stores c (written d) e
 
 pub cleaner-writes : CleanerWrites
 unfolding cleaner
-cleaner-writes s buffer c h e l = writes buffer c (notLarge s >> cleanForm s) (pass _ _ _ _ (le-ltb 65536 (length s) h) e) l
-
-pub room-refused : RoomRefused
-unfolding writer cleaner
-room-refused = record {
-  writer = λ d buffer c e l. roomless buffer c (written d) e l;
-  cleaner = λ s buffer c h e l. roomless buffer c (notLarge s >> cleanForm s) (pass _ _ _ _ (le-ltb 65536 (length s) h) e) l;
-  copy = λ recording sheet buffer es r l. ap (λ (a : _). a .0) (copy-roomless recording sheet es r buffer l);
-}
+cleaner-writes s c h e = stores c (notLarge s >> cleanForm s) (pass _ _ _ _ (le-ltb 65536 (length s) h) e)
 
 pub spot-of-record : SpotOfRecord
 spot-of-record = of-record
@@ -127,6 +127,27 @@ clean-exactly = RoundTrip.clean-exactly
 
 pub package-exactly : PackageExactly
 package-exactly = exactly
+
+-- the option run of a header that passes is a run by itself
+run-by-itself : (s : List ℕ) (h : Head) (n : ℕ) → header s ≡ good (h, n) → WholeRun (optionRun s)
+unfolding header optionRunLength
+run-by-itself s h n e =
+    let (l, f) = passed _ _ _ _ e in
+    let (k, o, f) = stepped _ _ f in
+    let (a, o) = came-after _ _ o in
+    let r : optionRun s ≡ part headerBytes (headerBytes + k) s = run-is s k (e ∙ sym f) in
+    rw r (whole-run-by _ .0 (run-again 0 s k (sound 0 s (head s) a) o))
+
+pub options-exactly : OptionsExactly
+options-exactly = record {
+  bare = whole-run-by;
+  read = run-by-itself;
+  place = λ p o n q e. let w = option-stopped p o e in (w .before, w .place, w .number, (w .options, w .fills, fault-at p o w));
+  said = λ run w n. said-by (w .1) (w .3) n;
+}
+
+pub count-exactly : CountExactly
+count-exactly = record { right = count-right; read = count-read; written = count-written }
 
 pub package-place : PackagePlace
 package-place p s n q e =
@@ -258,9 +279,9 @@ one-outcome A B told apart d a b p q = apart a b (p ∙ sym q)
 
 pub all-claims : Claims
 all-claims = record {
-  buffers = (buffers-kept, room-refused);
+  buffers = buffers-kept;
   premises = (premises-met, accepted-is-valid, read-valid);
-  reading = (spot-of-record, spot-exactly, counts-checked, package-exactly, cut-exactly, package-place, walk-shows-all, walk-stays);
+  reading = (spot-of-record, spot-exactly, counts-checked, options-exactly, count-exactly, package-exactly, cut-exactly, package-place, walk-shows-all, walk-stays);
   writing = (written-read, read-written, parts-give-clean, writer-writes);
   cleaning = (cleaner-writes, clean-alone, clean-twice, clean-exactly);
   measuring = (measured-released, measured-first);

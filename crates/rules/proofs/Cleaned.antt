@@ -7,7 +7,8 @@ use native.Mathlib.Omega.{arith}
 use lib.ListN.{length, take, drop, length-drop}
 use lib.Seq.{take-add, drop-cons, drop-drop, length-take-le}
 use Rattle.rules.specs.Bytes.{Bytes, at, half, word, put32, pad, part, oneIfAny}
-use Rattle.rules.specs.Packages.{packageOf, pieceOf, Piece, Fills, none, more}
+use Rattle.rules.specs.Items.{Fills, none, more}
+use Rattle.rules.specs.Packages.{packageOf, pieceOf, Piece}
 use Rattle.rules.specs.Message.{head, payloadStart, recordOf}
 use Rattle.rules.specs.Writer.{write}
 use Rattle.rules.specs.Clean.{cleanPiece, cleanBytes}
@@ -46,12 +47,12 @@ module _ (c : List ℕ) (h : Piece c) (b : Bytes c) where
       )
       (simp append-assoc)
 
-pub pieces-clean : {cs : List (List ℕ)} {s : List ℕ} → Fills cs s → Bytes s → map pieceOf (map packageOf cs) ≡ map cleanPiece cs
+pub pieces-clean : {cs : List (List ℕ)} {s : List ℕ} → Fills Piece cs s → Bytes s → map pieceOf (map packageOf cs) ≡ map cleanPiece cs
 pieces-clean none b = refl
 pieces-clean (more {c = c} {s = s} h r) b = rw (piece-clean c h (bytes-left c s b), pieces-clean r (bytes-right c s b))
 
 -- there is a package exactly where the payload is not empty
-pub any-filled : {cs : List (List ℕ)} {s : List ℕ} → Fills cs s → oneIfAny (map packageOf cs) ≡ oneIfAny s
+pub any-filled : {cs : List (List ℕ)} {s : List ℕ} → Fills Piece cs s → oneIfAny (map packageOf cs) ≡ oneIfAny s
 any-filled none = refl
 any-filled (more {c = c} {s = s} h r) = go c (omega (arith, h .least, h .whole))
   where
@@ -71,7 +72,7 @@ flags-back f a l g h =
     omega arith
 
 module _ (p : ℕ) (s : List ℕ) (r : ℕ × List (List ℕ)) (b : Bytes s) (w : Passed p s (head s) r) where
-  pub fills : Fills (r .1) (part (payloadStart (head s)) (head s .size) s)
+  pub fills : Fills Piece (r .1) (part (payloadStart (head s)) (head s .size) s)
   fills = Cut.sound 0 (p + payloadStart (head s)) (part (payloadStart (head s)) (head s .size) s) (w .packages)
 
   pub payload-bytes : Bytes (part (payloadStart (head s)) (head s .size) s)

@@ -9,17 +9,17 @@ use lib.Dec.{ltb}
 use lib.ListN.{length, replicate}
 use Rattle.rules.specs.Outcome.{Outcome, good, bad, VERSION, PACKAGE, LARGE, MARKER, refuse, _>>_, _>>=_, _∷>_}
 use Rattle.rules.specs.Bytes.{half, word}
-use Rattle.rules.specs.Options.{lengthAllowed, optionSize, optionFits, optionRunFrom}
-use Rattle.rules.specs.Items.{items}
+use Rattle.rules.specs.Options.{lengthAllowed, optionSize, optionFits, isSecond, optionRunFrom, countSaidFrom}
+use Rattle.rules.specs.Items.{items, count}
 use Rattle.rules.specs.Packages.{packageFits, piece, packageOf, pieceOf}
-use Rattle.rules.specs.Message.{notLarge, head, checksOneToSix, optionRunLength, checksEightAndNine, checksOneToNine, checksOneToTen, recordOf, message, recording}
+use Rattle.rules.specs.Message.{notLarge, head, checksOneToSix, optionRunLength, checksEightAndNine, checksOneToNine, checksOneToTen, everyCheck, recordOf, message, recording}
 use Rattle.rules.specs.Buffer.{fitted, stored}
-use Rattle.rules.specs.Writer.{write, drafted, accepted, written}
+use Rattle.rules.specs.Writer.{write, drafted, accepted, written, writer}
 use Rattle.rules.specs.Reading.{header, optionStart, messageSpot, messageAt}
 use Rattle.rules.specs.Walk.{packageSpot, packageAt, dataAt, startAt, nextAt}
 use Rattle.rules.specs.Clean.{cleanPiece, cleanBytes, cleanForm, cleaner}
 use Rattle.rules.specs.Sheet.{Row, bigEndian, rowOf, rowFits, row, sheet, sheetRows, shownRows, grants}
-use Rattle.rules.specs.Copy.{granted, grantedPackages, withEntryOf, released, count, copyMessage, copyMessages, copyBytes, packagesIn, releasedOf, roomFor, answered, reported, filled, copy}
+use Rattle.rules.specs.Copy.{granted, grantedPackages, withEntryOf, released, copyMessage, copyMessages, copyBytes, packagesIn, releasedOf, roomFor, answered, reported, filled, copy}
 use Rattle.rules.specs.Burst.{opening, randomizedAnswer, randomizer}
 use Rattle.rules.specs.Table.{R}
 use Rattle.rules.specs.Edges.{Edges, told, readings}
@@ -71,9 +71,9 @@ module _ (s : List ℕ) where
     unfolding checksOneToSix head
     version = pass _ _ _ _ (le-ltb (length input) 24 (omega arith)) (halt _ _ _ _ refl)
 
-    checks : checksOneToTen 0 input (head input) ≡ bad VERSION 0
-    unfolding checksOneToTen checksOneToNine optionRunLength
-    checks = stop _ _ (stop _ _ (stop-before _ _ version))
+    checks : everyCheck 0 input (head input) ≡ bad VERSION 0
+    unfolding everyCheck checksOneToTen checksOneToNine optionRunLength
+    checks = stop _ _ (stop _ _ (stop _ _ (stop-before _ _ version)))
 
     recorded : recording input ≡ bad VERSION 0
     unfolding recording message
@@ -98,12 +98,13 @@ module _ (s : List ℕ) where
 -- ---- all of them
 
 pub edges : Edges
-unfolding refuse _>>_ _>>=_ _∷>_ half word items lengthAllowed optionSize optionFits optionRunFrom packageFits piece packageOf pieceOf head checksOneToSix optionRunLength checksEightAndNine checksOneToNine checksOneToTen recordOf message recording header optionStart messageSpot messageAt packageSpot packageAt dataAt startAt nextAt write drafted accepted written cleanPiece cleanBytes cleanForm cleaner fitted stored bigEndian rowOf rowFits row sheet sheetRows shownRows grants granted grantedPackages withEntryOf released count copyMessage copyMessages copyBytes packagesIn releasedOf roomFor answered reported filled copy opening randomizedAnswer randomizer
+unfolding refuse _>>_ _>>=_ _∷>_ half word items lengthAllowed optionSize optionFits isSecond optionRunFrom countSaidFrom packageFits piece packageOf pieceOf head checksOneToSix optionRunLength checksEightAndNine checksOneToNine checksOneToTen everyCheck recordOf message recording header optionStart messageSpot messageAt packageSpot packageAt dataAt startAt nextAt write drafted accepted written writer cleanPiece cleanBytes cleanForm cleaner fitted stored bigEndian rowOf rowFits row sheet sheetRows shownRows grants granted grantedPackages withEntryOf released count copyMessage copyMessages copyBytes packagesIn releasedOf roomFor answered reported filled copy opening randomizedAnswer randomizer
 edges = record {
   headerFields = refl;
   lengths = refl;
   starts = refl;
   runs = refl;
+  seconds = refl;
   packageFields = refl;
   sizes = refl;
   steps = refl;
@@ -125,9 +126,12 @@ edges = record {
   messages = refl;
   order = refl;
   headerAlone = refl;
+  counts = refl;
+  counted = refl;
   fits = all-fit;
   large = all-large;
   sheetFirst = λ s. refl;
   drafts = refl;
+  draftsCounted = refl;
   draftsLarge = λ o q e. (λ f. rw (e, f), λ f. rw (e, f));
 }

@@ -11,7 +11,8 @@ use Rattle.rules.specs.Packages.{Package}
 use Rattle.rules.specs.Message.{Message}
 use Rattle.rules.specs.Writer.{write}
 use Rattle.rules.specs.Sheet.{Row}
-use Rattle.rules.specs.Copy.{granted, Entry, grantedPackages, withEntryOf, released, count, copyMessage, copyMessages, copyBytes}
+use Rattle.rules.specs.Items.{count}
+use Rattle.rules.specs.Copy.{granted, Entry, grantedPackages, withEntryOf, released, copyMessage, copyMessages, copyBytes}
 
 -- the message id of an entry
 abbrev pub idOf : Entry → ℕ

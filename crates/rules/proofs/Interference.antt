@@ -8,13 +8,13 @@ use lib.ListN.{length, length-append}
 use lib.Seq.{sets}
 use Rattle.rules.specs.Outcome.{good, ROOM}
 use Rattle.rules.specs.Bytes.{Bytes, join}
-use Rattle.rules.specs.Items.{items, All, all-nil, all-cons}
+use Rattle.rules.specs.Items.{items, All, all-nil, all-cons, count}
 use Rattle.rules.specs.Message.{Message, message, recording}
 use Rattle.rules.specs.Packages.{Package}
 use Rattle.rules.specs.Sheet.{Row}
 use Rattle.rules.specs.Writer.{write}
 use Rattle.rules.specs.Valid.{Valid}
-use Rattle.rules.specs.Copy.{Entry, listedBits, grantedPackages, withEntryOf, released, count, copyMessage, copyMessages, copyBytes, packagesIn, releasedOf, reported, filled, answered, copy, delivered}
+use Rattle.rules.specs.Copy.{Entry, listedBits, grantedPackages, withEntryOf, released, copyMessage, copyMessages, copyBytes, packagesIn, releasedOf, reported, filled, answered, copy, delivered}
 use Rattle.rules.specs.Claims.{Plain}
 use Rattle.rules.proofs.Outcomes.{step, passed, stepped, good-inj}
 use Rattle.rules.proofs.Measured.{room-for, no-room-for}

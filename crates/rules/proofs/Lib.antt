@@ -8,6 +8,8 @@ pub mod Cut
 pub mod Refused
 pub mod Pieces
 pub mod Run
+pub mod Counts
+pub mod Wholes
 pub mod Again
 pub mod Passed
 pub mod Alone
@@ -15,7 +17,7 @@ pub mod Cleaned
 pub mod Valids
 pub mod RoundTrip
 pub mod Released
-pub mod Roomless
+pub mod Nevers
 pub mod Measured
 pub mod Interference
 pub mod Kept

@@ -11,7 +11,7 @@ use Rattle.rules.specs.Outcome.{Outcome, good, bad, _>>=_, ROOM}
 use Rattle.rules.specs.Buffer.{fitted}
 use Rattle.rules.specs.Copy.{Entry, Answer, copyBytes, roomFor, reported, filled, answered}
 use Rattle.rules.proofs.Outcomes.{pass, halt, step, stop}
-use Rattle.rules.proofs.Roomless.{Never}
+use Rattle.rules.proofs.Nevers.{Never}
 
 pub room-for : (buffer : List ℕ) (es : List Entry) → length (copyBytes es) ≤ length buffer → roomFor buffer es ≡ good es
 unfolding roomFor fitted
@@ -21,10 +21,10 @@ pub no-room-for : (buffer : List ℕ) (es : List Entry) → length buffer < leng
 unfolding roomFor fitted
 no-room-for buffer es l = stop _ _ (halt _ _ _ _ (lt-ltb (length buffer) (length (copyBytes es)) l))
 
-pub measured-roomless : (o : Outcome (List Entry)) → Never o → reported o .number ≡ ROOM → ⊥
+pub measured-roomless : (o : Outcome (List Entry)) → Never ROOM o → reported o .number ≡ ROOM → ⊥
 unfolding reported
 measured-roomless (good es) v e = omega (arith, e)
-measured-roomless (bad n p) v e = v .room p (ap (λ (x : ℕ). bad x p) e)
+measured-roomless (bad n p) v e = v .given p (ap (λ (x : ℕ). bad x p) e)
 
 pub measured-enough : (o : Outcome (List Entry)) (buffer : List ℕ) → reported o .bytes ≤ length buffer → reported (o >>= roomFor buffer) ≡ reported o
 unfolding reported _>>=_

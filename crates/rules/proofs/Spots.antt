@@ -7,21 +7,18 @@ use borrow.Author.Tests.{le-ltb}
 use lib.ListN.{length, drop, length-map}
 use Rattle.rules.specs.Outcome.{good, bad}
 use Rattle.rules.specs.Packages.{packageOf}
-use Rattle.rules.specs.Message.{head, checksOneToTen, Message, recordOf, message}
+use Rattle.rules.specs.Message.{head, everyCheck, Message, recordOf, message}
 use Rattle.rules.specs.Reading.{MessageSpot, messageSpot, messageAt}
 use Rattle.rules.specs.Claims.{OfRecord}
 use Rattle.rules.proofs.Outcomes.{pass, step, stop, passed, stepped, refused-step, good-inj, good≢bad}
 
-of-checksOneToTen : (s : List ℕ) (p : ℕ) (r : ℕ × List (List ℕ)) → checksOneToTen p (drop p s) (head (drop p s)) ≡ good r → OfRecord s p (messageSpot p (head (drop p s)) r)
+of-checked : (s : List ℕ) (p : ℕ) (r : ℕ × List (List ℕ)) → everyCheck p (drop p s) (head (drop p s)) ≡ good r → OfRecord s p (messageSpot p (head (drop p s)) r)
 unfolding messageSpot recordOf message
-of-checksOneToTen s p r e = record {
+of-checked s p r e = record {
   held = recordOf (drop p s) (head (drop p s)) r;
   read = step _ _ e refl;
   flags = refl;
-  id = refl;
-  sequence = refl;
-  seconds = refl;
-  nanos = refl;
+  numbers = (refl, refl, refl, refl);
   options = refl;
   packages = sym (length-map (r .1) packageOf);
   payload = refl;
@@ -45,4 +42,4 @@ unfolding messageAt
 of-record s p k e =
     let (a, f) = passed _ _ _ _ e in
     let (r, g, h) = stepped _ _ f in
-    subst (λ (x : MessageSpot). OfRecord s p x) (good-inj h) (of-checksOneToTen s p r g)
+    subst (λ (x : MessageSpot). OfRecord s p x) (good-inj h) (of-checked s p r g)

@@ -9,9 +9,10 @@ use lib.ListN.{length, take, drop, length-drop, length-append}
 use lib.Seq.{drop-drop, take-take, drop-append-seam, take-append-seam}
 use Rattle.rules.specs.Outcome.{Outcome, good, bad}
 use Rattle.rules.specs.Bytes.{half, part}
-use Rattle.rules.specs.Packages as P
-use Rattle.rules.specs.Packages.{Package, piece, cut, packageOf, Fills}
-use Rattle.rules.specs.Walk.{PackageSpot, packageSpot, packageAt, dataIn, nextIn, dataAt, nextAt, packageIn, Walks, ends, shows}
+use Rattle.rules.specs.Items as I
+use Rattle.rules.specs.Items.{Fills}
+use Rattle.rules.specs.Packages.{Package, piece, cut, packageOf, Piece}
+use Rattle.rules.specs.Walk.{PackageSpot, packageSpot, packageAt, shownIn, dataAt, nextAt, packageIn, Walks, ends, shows}
 use Rattle.rules.proofs.Outcomes.{pass, step}
 use Rattle.rules.proofs.Cut.{piece-again, sound}
 
@@ -46,10 +47,10 @@ module _ (s : List ℕ) (small : length s ≤ 65536) where
       let m : nextAt s p ≡ q = rw (e, nextAt) n in
       subst (λ (x : Package). Walks s p (x ∷ ks)) f (shows e (subst (λ (j : ℕ). Walks s j ks) (sym m) w))
 
-  walks : (p : ℕ) {cs : List (List ℕ)} {t : List ℕ} → Fills cs t → t ≡ drop p s → Walks s p (map packageOf cs)
+  walks : (p : ℕ) {cs : List (List ℕ)} {t : List ℕ} → Fills Piece cs t → t ≡ drop p s → Walks s p (map packageOf cs)
   unfolding packageSpot
-  walks p P.none e = ends (at-end p (omega (arith, length-drop p s, ap length e)))
-  walks p (P.more {c = c} {cs = cs} {s = t} h r) e =
+  walks p I.none e = ends (at-end p (omega (arith, length-drop p s, ap length e)))
+  walks p (I.more {c = c} {cs = cs} {s = t} h r) e =
       let l : p < length s = omega (arith, length-drop p s, ap length e, length-append c t, h .least, h .whole) in
       let n : t ≡ drop (p + length c) s = sym (drop-append-seam c t) ∙ ap (drop (length c)) e ∙ drop-drop (length c) p s in
       let q : c ≡ take (length c) (drop p s) = sym (take-append-seam c t) ∙ ap (take (length c)) e in
@@ -67,7 +68,7 @@ pub stays : (s : List ℕ) (i : ℕ) → ((k : PackageSpot) → packageAt s i �
 unfolding nextAt dataAt
 stays s i unshown = go (packageAt s i) (λ k e. unshown k e)
   where
-    go : (o : Outcome (Option PackageSpot)) → ((k : PackageSpot) → o ≡ good (some k) → ⊥) → (nextIn i o ≡ i) × (dataIn s o ≡ [])
+    go : (o : Outcome (Option PackageSpot)) → ((k : PackageSpot) → o ≡ good (some k) → ⊥) → (shownIn s i o .2 ≡ i) × (shownIn s i o .0 ≡ [])
     go (good none) unshown = (refl, refl)
     go (good (some k)) unshown = absurd (unshown k refl)
     go (bad n p) unshown = (refl, refl)

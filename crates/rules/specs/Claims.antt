@@ -1,23 +1,25 @@
 -- The demands as statements, to be read without any proof. proofs/Claims.antt proves each, and all of them as one; docs/PROMISES.md says which function's promise makes it speak of the code.
 use Prim.Native.Nat.{ℕ, _+_, _*_, _/_, _%_, _^_, _≤_, _<_}
 use mathlib.Core.Path.{_≡_}
-use mathlib.Core.Logic.{_↔_}
+use mathlib.Core.Logic.{_↔_, _⊎_}
 use mathlib.Core.Bool.{true, false}
 use mathlib.Core.List.{List, [], _∷_, _++_, map}
 use mathlib.Core.Option.{some}
 use lib.ListN.{length, getD, take, drop}
-use Rattle.rules.specs.Outcome.{good, bad, PACKAGE, ROOM}
-use Rattle.rules.specs.Bytes.{Bytes, part, join}
-use Rattle.rules.specs.Items.{items, All}
-use Rattle.rules.specs.Packages.{Package, packageFits, cut, packageOf, Fills, packageTime}
-use Rattle.rules.specs.Message.{headerBytes, mostBytes, Head, head, payloadStart, payload, isSimulated, recordBits, checksOneToNine, Message, message, recording}
-use Rattle.rules.specs.Reading.{optionRun, MessageSpot, messageAt, checkedRecording}
+use Rattle.rules.specs.Outcome.{good, bad, OPTION, PACKAGE, ROOM, COUNT}
+use Rattle.rules.specs.Bytes.{Bytes, word, pad, part, join}
+use Rattle.rules.specs.Items.{items, All, count, Fills}
+use Rattle.rules.specs.Options.{mostOptionBytes, optionFits, isSecond, optionRunFrom, countSaid, kindOf, WholeOption}
+use Rattle.rules.specs.Packages.{Package, packageFits, cut, packageOf, packageTime, Piece}
+use Rattle.rules.specs.Message.{headerBytes, mostNanos, mostBytes, Head, head, payloadStart, payload, isSimulated, recordBits, checksOneToNine, checksOneToTen, Message, message, recording}
+use Rattle.rules.specs.Reading.{header, optionRun, MessageSpot, messageAt, checkedRecording}
+use Rattle.rules.specs.Buffer.{Written}
 use Rattle.rules.specs.Walk.{PackageSpot, packageAt, dataAt, nextAt, Walks}
 use Rattle.rules.specs.Writer.{write, Draft, accepted, written, writer}
 use Rattle.rules.specs.Clean.{cleanForm, cleaner}
 use Rattle.rules.specs.Valid.{Valid, DraftFits}
 use Rattle.rules.specs.Sheet.{Row, rowOf, startOf, endOf, sheet}
-use Rattle.rules.specs.Copy.{granted, Entry, grantedPackages, released, count, copyMessage, copyMessages, copyBytes, releasedOf, measurement, copy, delivered}
+use Rattle.rules.specs.Copy.{granted, Entry, grantedPackages, released, copyMessage, copyMessages, copyBytes, releasedOf, measurement, copy, delivered}
 use Rattle.rules.specs.Table.{Table}
 use Rattle.rules.specs.Edges.{Edges}
 use Rattle.rules.specs.Burst.{_xor_, bit, sequenceByte, sequenceBytes, randomized, randomizer, marker, blockSize, mostBlocks, opening, opener}
@@ -66,20 +68,16 @@ partsOf s h = record { flags = h .flags; id = h .id; sequence = h .sequence; sec
 abbrev pub PartsWritten : Type 0
 PartsWritten = (s : List ℕ) → Bytes s → length s ≤ mostBytes → (m : Message) (n : ℕ) → message 0 s ≡ good (m, n) → written (partsOf s (head s)) ≡ cleanForm s
 
--- With room, writer and cleaner write: the buffer's first so many bytes are what was written.
+-- With room for c an entry point writes: the buffer's first so many bytes are c. Without room it refuses: ROOM, with the bytes needed as place.
+pub record Writes (c : List ℕ) (entry : List ℕ → Written × List ℕ) : Type 0 where
+  pub room : (buffer : List ℕ) → length c ≤ length buffer → (entry buffer .0 ≡ record { number = 0; place = 0; bytes = length c }) × (take (length c) (entry buffer .1) ≡ c)
+  pub short : (buffer : List ℕ) → length buffer < length c → entry buffer .0 ≡ record { number = ROOM; place = length c; bytes = 0 }
+
 abbrev pub WriterWrites : Type 0
-WriterWrites = (d : Draft) (buffer c : List ℕ) → written d ≡ good c → length c ≤ length buffer
-    → (writer d buffer .0 ≡ record { number = 0; place = 0; bytes = length c }) × (take (length c) (writer d buffer .1) ≡ c)
+WriterWrites = (d : Draft) (c : List ℕ) → written d ≡ good c → Writes c (writer d)
 
 abbrev pub CleanerWrites : Type 0
-CleanerWrites = (s buffer c : List ℕ) → length s ≤ mostBytes → cleanForm s ≡ good c → length c ≤ length buffer
-    → (cleaner s buffer .0 ≡ record { number = 0; place = 0; bytes = length c }) × (take (length c) (cleaner s buffer .1) ≡ c)
-
--- Without room they refuse, and so does the copy: ROOM, with the bytes needed as place.
-pub record RoomRefused : Type 0 where
-  pub writer : (d : Draft) (buffer c : List ℕ) → written d ≡ good c → length buffer < length c → writer d buffer .0 ≡ record { number = ROOM; place = length c; bytes = 0 }
-  pub cleaner : (s buffer c : List ℕ) → length s ≤ mostBytes → cleanForm s ≡ good c → length buffer < length c → cleaner s buffer .0 ≡ record { number = ROOM; place = length c; bytes = 0 }
-  pub copy : (recording sheet buffer : List ℕ) (es : List Entry) → releasedOf recording sheet ≡ good es → length buffer < length (copyBytes es) → copy recording sheet buffer .0 ≡ record { number = ROOM; place = length (copyBytes es); bytes = 0; messages = 0; packages = 0 }
+CleanerWrites = (s c : List ℕ) → length s ≤ mostBytes → cleanForm s ≡ good c → Writes c (cleaner s)
 
 -- What follows the message changes nothing of its clean form.
 abbrev pub CleanAlone : Type 0
@@ -99,10 +97,7 @@ pub record OfRecord (s : List ℕ) (p : ℕ) (k : MessageSpot) : Type 0 where
   pub held : Message
   pub read : message p (drop p s) ≡ good (held, k .head .size)
   pub flags : recordBits (k .head .flags) ≡ held .flags
-  pub id : k .head .id ≡ held .id
-  pub sequence : k .head .sequence ≡ held .sequence
-  pub seconds : k .head .seconds ≡ held .seconds
-  pub nanos : k .head .nanos ≡ held .nanos
+  pub numbers : (k .head .id ≡ held .id) × (k .head .sequence ≡ held .sequence) × (k .head .seconds ≡ held .seconds) × (k .head .nanos ≡ held .nanos)
   pub options : part headerBytes (headerBytes + k .run) (drop p s) ≡ held .options
   pub packages : k .packages ≡ length (held .packages)
   pub payload : k .payload ≡ p + payloadStart (k .head)
@@ -123,16 +118,48 @@ CountsChecked = (s : List ℕ) (ms : List Message) → recording s ≡ good ms �
 -- Where checks 1 to 9 pass, a payload is refused as PACKAGE exactly if no cut into packages fills it.
 abbrev pub PackageExactly : Type 0
 PackageExactly = (p : ℕ) (s : List ℕ) (n : ℕ) → checksOneToNine p s (head s) ≡ good n
-    → ((q : ℕ) × (message p s ≡ bad PACKAGE q)) ↔ ((pieces : List (List ℕ)) → Fills pieces (payload s (head s)) → ⊥)
+    → ((q : ℕ) × (message p s ≡ bad PACKAGE q)) ↔ ((pieces : List (List ℕ)) → Fills Piece pieces (payload s (head s)) → ⊥)
+
+-- P holds of some element
+pub data Some {A : Type 0} (P : A → Type 0) : List A → Type 0 where
+  here : {a : A} {l : List A} → P a → Some P (a ∷ l)
+  there : {a : A} {l : List A} → Some P l → Some P (a ∷ l)
+
+-- A run of whole options, none of kind 0x00 and at most one each of the kinds 0x86 and 0x87.
+abbrev pub WholeRun : List ℕ → Type 0
+WholeRun run = (options : List (List ℕ)) × Fills WholeOption options run × (count 0x86 (map kindOf options) ≤ 1) × (count 0x87 (map kindOf options) ≤ 1)
+
+-- A bare run, as the writer takes it, passes exactly if it is one, and so is the run of a header that passes. Option bytes are refused as OPTION, at the
+-- first option that does not keep the rules or is a second one: whole options fill what is before it. A run says the number n exactly if its option 0x87
+-- has it behind kind and length.
+pub record OptionsExactly : Type 0 where
+  pub bare : (run : List ℕ) → (optionRunFrom [] 0 0 0 run ≡ good (length run)) ↔ WholeRun run
+  pub read : (s : List ℕ) (h : Head) (n : ℕ) → header s ≡ good (h, n) → WholeRun (optionRun s)
+  pub place : (p : ℕ) (o : List ℕ) (n q : ℕ) → optionRunFrom [] 0 p 0 o ≡ bad n q → (d : ℕ) × (q ≡ p + d) × (n ≡ OPTION)
+      × ((options : List (List ℕ)) × Fills WholeOption options (take d o) × ((optionFits (drop d o) ≡ false) ⊎ (isSecond (kindOf (drop d o)) (map kindOf options) ≡ true)))
+  pub said : (run : List ℕ) (w : WholeRun run) (n : ℕ) → (countSaid run ≡ some n) ↔ Some (λ (c : List ℕ). (kindOf c ≡ 0x87) × (word c 2 ≡ n)) (w .0)
+
+-- A run says another number of packages than n.
+abbrev pub SaysOther : List ℕ → ℕ → Type 0
+SaysOther run n = (c : ℕ) × (countSaid run ≡ some c) × (c ≡ n → ⊥)
+
+-- The number that a message says, if it passes, is that of its packages. COUNT is given, at the message, exactly if checks 1 to 10 pass and the option run
+-- says another; and by the writer, at 0, exactly if all that it checks before passes and the option run says another.
+pub record CountExactly : Type 0 where
+  pub right : (p : ℕ) (s : List ℕ) (m : Message) (n : ℕ) → message p s ≡ good (m, n) → (c : ℕ) → countSaid (m .options) ≡ some c → c ≡ length (m .packages)
+  pub read : (p : ℕ) (s : List ℕ) (q : ℕ) → (message p s ≡ bad COUNT q)
+      ↔ ((q ≡ p) × ((r : ℕ × List (List ℕ)) × (checksOneToTen p s (head s) ≡ good r) × SaysOther (part headerBytes (headerBytes + r .0) s) (length (r .1))))
+  pub written : (d : Draft) (q : ℕ) → (written d ≡ bad COUNT q) ↔ ((q ≡ 0) × (headerBytes + pad (length (d .options)) + length (d .packages) ≤ mostBytes) × (d .nanos ≤ mostNanos)
+      × (length (d .options) ≤ mostOptionBytes) × WholeRun (d .options) × ((pieces : List (List ℕ)) × Fills Piece pieces (d .packages) × SaysOther (d .options) (length pieces)))
 
 -- The packages fill the payload, in one way only: a run is cut into these pieces exactly if they fill it.
 abbrev pub CutExactly : Type 0
-CutExactly = (p : ℕ) (s : List ℕ) (pieces : List (List ℕ)) → (cut p s ≡ good pieces) ↔ Fills pieces s
+CutExactly = (p : ℕ) (s : List ℕ) (pieces : List (List ℕ)) → (cut p s ≡ good pieces) ↔ Fills Piece pieces s
 
 -- The place of that refusal is the first package that its header or the bytes left do not allow: whole packages fill what is before it.
 abbrev pub PackagePlace : Type 0
 PackagePlace = (p : ℕ) (s : List ℕ) (n q : ℕ) → cut p s ≡ bad n q
-    → (d : ℕ) × (q ≡ p + d) × (n ≡ PACKAGE) × (packageFits (drop d s) ≡ false) × ((pieces : List (List ℕ)) × Fills pieces (take d s))
+    → (d : ℕ) × (q ≡ p + d) × (n ≡ PACKAGE) × (packageFits (drop d s) ≡ false) × ((pieces : List (List ℕ)) × Fills Piece pieces (take d s))
 
 -- A walk shows every package of the cut, in order, and then the end.
 abbrev pub WalkShowsAll : Type 0
@@ -152,10 +179,6 @@ pub record InRanges (m : Message) (k : Package) (r : Row) : Type 0 where
   pub start : startOf r ≤ packageTime (m .seconds) (m .nanos) (k .delta)
   pub end : packageTime (m .seconds) (m .nanos) (k .delta) < endOf r
   pub acquired : r .acquiredOnly ≡ true → m .flags / 8 % 2 ≡ 0
-
-pub data Some {A : Type 0} (P : A → Type 0) : List A → Type 0 where
-  here : {a : A} {l : List A} → P a → Some P (a ∷ l)
-  there : {a : A} {l : List A} → Some P l → Some P (a ∷ l)
 
 abbrev pub GrantedExactly : Type 0
 GrantedExactly = (rows : List Row) (m : Message) (k : Package) → (granted rows m k ≡ true) ↔ Some (InRanges m k) rows
@@ -292,9 +315,9 @@ OneOutcome = (A B : Type 0) (told : A → B) → TellsApart told → (d : B) (a 
 -- ---- All of it: every statement above, P1 to P12, and the rules at their edges.
 
 pub record Claims : Type 1 where
-  pub buffers : BuffersKept × RoomRefused
+  pub buffers : BuffersKept
   pub premises : PremisesMet × AcceptedValid × ReadValid
-  pub reading : SpotOfRecord × SpotExactly × CountsChecked × PackageExactly × CutExactly × PackagePlace × WalkShowsAll × WalkStays
+  pub reading : SpotOfRecord × SpotExactly × CountsChecked × OptionsExactly × CountExactly × PackageExactly × CutExactly × PackagePlace × WalkShowsAll × WalkStays
   pub writing : WrittenRead × ReadWritten × PartsWritten × WriterWrites
   pub cleaning : CleanerWrites × CleanAlone × CleanTwice × CleanExactly
   pub measuring : MeasuredReleased × ((recording sheet : List ℕ) → MeasuredFirst recording sheet)

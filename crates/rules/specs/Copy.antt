@@ -1,13 +1,13 @@
 -- Document 01, 'The released list and the copy', measured first and then written (document 02, A3): what a recording releases under a sheet, what its copy
 -- takes, and the messages, the answer and the buffer of the copy.
-use Prim.Native.Nat.{ℕ, suc, _+_, _*_, _/_, _%_}
+use Prim.Native.Nat.{ℕ, _+_, _*_, _/_, _%_}
 use mathlib.Core.Bool.{Bool, true, false, _||_}
 use mathlib.Core.List.{List, [], _∷_, map}
-use lib.Dec.{eqb}
 use lib.ListN.{length, take}
 use lib.Seq.{sets}
 use Rattle.rules.specs.Outcome.{Outcome, good, bad, _>>=_}
 use Rattle.rules.specs.Bytes.{join}
+use Rattle.rules.specs.Items.{count}
 use Rattle.rules.specs.Packages.{Package, packageTime}
 use Rattle.rules.specs.Message.{isSimulated, Message, recording}
 use Rattle.rules.specs.Buffer.{fitted}
@@ -45,11 +45,6 @@ withEntryOf m (p ∷ ps) es = record { id = m .id; seconds = m .seconds; nanos =
 unfoldable pub released : List Row → List Message → List Entry
 released rs [] = []
 released rs (m ∷ ms) = withEntryOf m (grantedPackages rs m (m .packages)) (released rs ms)
-
--- how often x stands in l
-unfoldable pub count : ℕ → List ℕ → ℕ
-count x [] = 0
-count x (y ∷ l) = elim (eqb x y) [ true ↦ suc (count x l) | false ↦ count x l ]
 
 -- flag bit 6, playback
 abbrev pub playback : ℕ

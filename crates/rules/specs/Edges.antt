@@ -1,16 +1,17 @@
--- Document 01's rules at their edges, on both sides and with their places: numbers to check by of our own, beside P1 to P12 and typed from its sentences.
+-- The rules at their edges, on both sides and with their places: numbers to check by of our own, beside P1 to P12, typed from the sentences of document 01
+-- and of document 02, A2.
 use Prim.Native.Nat.{ℕ, _+_, _*_, _/_, _%_, _^_}
 use mathlib.Core.Path.{_≡_}
 use mathlib.Core.Bool.{true, false}
 use mathlib.Core.List.{List, [], _∷_, _++_, map}
 use lib.Dec.{eqb}
 use lib.ListN.{length, take, drop, set, replicate}
-use Rattle.rules.specs.Outcome.{Outcome, good, bad, _>>=_, SHORT, VERSION, TYPE, LENGTH, CUT, TIME, OPTION, FRAGMENT, STANDARD, PACKAGE, ROW, LARGE, ROOM, MARKER, BLOCKS}
+use Rattle.rules.specs.Outcome.{Outcome, good, bad, _>>=_, SHORT, VERSION, TYPE, LENGTH, CUT, TIME, OPTION, FRAGMENT, STANDARD, PACKAGE, ROW, LARGE, ROOM, MARKER, BLOCKS, COUNT}
 use Rattle.rules.specs.Bytes.{join}
 use Rattle.rules.specs.Message.{Message, recording}
 use Rattle.rules.specs.Reading.{header, optionStart, messageAt}
 use Rattle.rules.specs.Walk.{packageAt, startAt, nextAt, dataAt}
-use Rattle.rules.specs.Writer.{Draft, written}
+use Rattle.rules.specs.Writer.{Draft, written, writer}
 use Rattle.rules.specs.Clean.{cleanForm, cleaner}
 use Rattle.rules.specs.Sheet.{Row, sheet, sheetRows, shownRows}
 use Rattle.rules.specs.Copy.{releasedOf, copy, delivered}
@@ -42,6 +43,10 @@ messageOf flags options payload = words ((0x10000000 + length options / 4 * 0x10
 
 abbrev pub runOf : List ℕ → Outcome ℕ
 runOf options = header (messageOf 0 options []) >>= λ r. good (r .1)
+
+-- M with these option words
+abbrev pub optionsOf : List ℕ → List ℕ
+optionsOf ws = messageOf 0x80 (words ws) (drop 24 M)
 
 -- those of these lengths that an option of kind k may have
 abbrev pub lengthsOf : ℕ → List ℕ → List ℕ
@@ -87,6 +92,10 @@ pub record Edges : Type 0 where
   pub starts : Gives optionStart ((optionsWith 0x87060000, 24) ∷ (optionsWith 0x87050000, 0) ∷ [])
   pub runs : Gives (λ (w : ℕ). runOf (words (w ∷ []))) (
       (0x017F017F, good 4) ∷ (0x01010180, bad OPTION 27) ∷ (0x80040000, good 4) ∷ (0x80050000, bad OPTION 24) ∷ (0x01800400, bad OPTION 25) ∷ (0x010080FF, good 1) ∷ (0x80030001, good 4) ∷ (0x80028202, bad OPTION 26) ∷ [])
+  -- 0x86 and 0x87, one each; a second one of either, of another kind, behind others; behind 0x00, in data, and behind a bad option
+  pub seconds : Gives (λ (ws : List ℕ). runOf (words ws)) (
+      (0x87060000 ∷ 0x00008606 ∷ 0 ∷ [], good 12) ∷ (0x86060000 ∷ 0x00008606 ∷ 0 ∷ [], bad OPTION 30) ∷ (0x87060000 ∷ 0x00008706 ∷ 0 ∷ [], bad OPTION 30) ∷ (0x85060000 ∷ 0x00008506 ∷ 0 ∷ [], good 12) ∷ (0x88060000 ∷ 0x00008806 ∷ 0 ∷ [], good 12)
+      ∷ (0x01870600 ∷ 0x00000086 ∷ 0x06000000 ∷ 0x00870600 ∷ 0 ∷ [], bad OPTION 37) ∷ (0x87060000 ∷ 0x00000087 ∷ 0x06000000 ∷ [], good 6) ∷ (0x87060000 ∷ 0x00008006 ∷ 0x87060000 ∷ [], good 12) ∷ (0x87060000 ∷ 0x00008202 ∷ 0x87060000 ∷ 0 ∷ [], bad OPTION 30) ∷ [])
   -- ---- Packages: every field of one; L and the bytes left; a walk at packages, at other places, at the end and behind it.
   pub packageFields : (recording (messageOf 0x80 [] (words (0x01020304 ∷ 0x000E7788 ∷ 0x090A0B0C ∷ 0xAABBCCDD ∷ []))) >>= λ ms. good (map (λ (m : Message). m .packages) ms)) ≡
       good ((record { id = 0x01020304; status = 0x88; delta = 0x090A0B0C; content = 0xAA ∷ 0xBB ∷ [] } ∷ []) ∷ [])
@@ -126,7 +135,7 @@ pub record Edges : Type 0 where
   pub blocks : Gives (λ (n : ℕ). told (opening (marker ++ replicate n 0))) ((0, (BLOCKS, 8)) ∷ (767, (BLOCKS, 775)) ∷ (768, (0, 0)) ∷ (769, (BLOCKS, 777)) ∷ (1536, (0, 0)) ∷ [])
   pub most : (s : List ℕ) → (length s ≡ 61440 → told (opening (marker ++ s)) ≡ (0, 0)) × (length s ≡ 62208 → told (opening (marker ++ s)) ≡ (BLOCKS, 62216))
   -- ---- Refusal numbers: the numbers; one byte of M changed.
-  pub numbers : SHORT ∷ VERSION ∷ TYPE ∷ LENGTH ∷ CUT ∷ TIME ∷ OPTION ∷ FRAGMENT ∷ STANDARD ∷ PACKAGE ∷ ROW ∷ LARGE ∷ ROOM ∷ MARKER ∷ BLOCKS ∷ [] ≡ 1 ∷ 2 ∷ 3 ∷ 4 ∷ 5 ∷ 6 ∷ 7 ∷ 8 ∷ 9 ∷ 10 ∷ 11 ∷ 12 ∷ 13 ∷ 14 ∷ 15 ∷ []
+  pub numbers : SHORT ∷ VERSION ∷ TYPE ∷ LENGTH ∷ CUT ∷ TIME ∷ OPTION ∷ FRAGMENT ∷ STANDARD ∷ PACKAGE ∷ ROW ∷ LARGE ∷ ROOM ∷ MARKER ∷ BLOCKS ∷ COUNT ∷ [] ≡ 1 ∷ 2 ∷ 3 ∷ 4 ∷ 5 ∷ 6 ∷ 7 ∷ 8 ∷ 9 ∷ 10 ∷ 11 ∷ 12 ∷ 13 ∷ 14 ∷ 15 ∷ 17 ∷ []
   pub checks : Gives (λ (c : ℕ × ℕ). checked (changed M (c ∷ []))) (
       ((0, 0x00), (VERSION, 0)) ∷ ((1, 0x01), (TYPE, 0)) ∷ ((1, 0x08), (TYPE, 0)) ∷ ((15, 0x14), (LENGTH, 0)) ∷ ((15, 0x35), (LENGTH, 0)) ∷ ((15, 0x36), (LENGTH, 0)) ∷ ((12, 0x01), (CUT, 0)) ∷ ((20, 0x3C), (TIME, 0))
       ∷ ((3, 0x90), (FRAGMENT, 0)) ∷ ((3, 0xA0), (FRAGMENT, 0)) ∷ ((3, 0xB0), (FRAGMENT, 0)) ∷ ((3, 0x00), (STANDARD, 0)) ∷ ((3, 0xCF), (0, 0)) ∷ ((44, 0x01), (PACKAGE, 40)) ∷ [])
@@ -138,6 +147,13 @@ pub record Edges : Type 0 where
   pub order : Gives (λ (n : ℕ). checked (M ++ broken n)) (
       (0, (VERSION, 56)) ∷ (1, (TYPE, 56)) ∷ (2, (LENGTH, 56)) ∷ (3, (CUT, 56)) ∷ (4, (TIME, 56)) ∷ (5, (OPTION, 80)) ∷ (6, (FRAGMENT, 56)) ∷ (7, (STANDARD, 56)) ∷ (8, (PACKAGE, 84)) ∷ [])
   pub headerAlone : Gives (λ (n : ℕ). told (header (broken n))) ((5, (OPTION, 24)) ∷ (6, (0, 0)) ∷ [])
+  -- the package count: right, above and below, as another number's bytes, behind 0x00, in data, of kind 0x86; without packages 0 and 1; in a fragment; PACKAGE before it, and it before the next message
+  pub counts : Gives checked (
+      (optionsOf (0x87060000 ∷ 0x00020000 ∷ []), (0, 0)) ∷ (optionsOf (0x87060000 ∷ 0x00030000 ∷ []), (COUNT, 0)) ∷ (optionsOf (0x87060000 ∷ 0x00010000 ∷ []), (COUNT, 0)) ∷ (optionsOf (0x87060200 ∷ 0 ∷ []), (COUNT, 0)) ∷ (optionsOf (0x87060001 ∷ 0x00020000 ∷ []), (COUNT, 0))
+      ∷ (optionsOf (0x00870600 ∷ 0x00000300 ∷ []), (0, 0)) ∷ (optionsOf (0x80088706 ∷ 0x00000003 ∷ []), (0, 0)) ∷ (optionsOf (0x86060000 ∷ 0x00030000 ∷ []), (0, 0)) ∷ (messageOf 0 (words (0x87060000 ∷ 0 ∷ [])) [], (0, 0)) ∷ (messageOf 0 (words (0x87060000 ∷ 0x00010000 ∷ [])) [], (COUNT, 0))
+      ∷ (changed (optionsOf (0x87060000 ∷ 0x00030000 ∷ [])) ((3, 0x90) ∷ []), (FRAGMENT, 0)) ∷ (changed (optionsOf (0x87060000 ∷ 0x00030000 ∷ [])) ((53, 0x11) ∷ []), (PACKAGE, 48)) ∷ (optionsOf (0x87060000 ∷ 0x00030000 ∷ []) ++ broken 0, (COUNT, 0)) ∷ (M ++ optionsOf (0x87060000 ∷ 0x00030000 ∷ []), (COUNT, 56)) ∷ [])
+  -- P7's message, of two packages, in every reading: a header alone does not count, and COUNT is found before ROOM
+  pub counted : readings (optionsWith 0x87060000) ≡ (PACKAGE, 0) ∷ (COUNT, 0) ∷ (0, 0) ∷ (COUNT, 0) ∷ (COUNT, 0) ∷ (MARKER, 0) ∷ (COUNT, 0) ∷ (0, 0) ∷ []
   -- 65,536 bytes and one more, for every reading; ROW is found before LARGE
   pub fits : (s : List ℕ) → length s ≡ 65524 → readings (replicate 12 0 ++ s) ≡ (PACKAGE, 0) ∷ (VERSION, 0) ∷ (VERSION, 0) ∷ (VERSION, 0) ∷ (VERSION, 0) ∷ (MARKER, 0) ∷ (VERSION, 0) ∷ (0, 0) ∷ []
   pub large : (s : List ℕ) → length s ≡ 65525 → readings (replicate 12 0 ++ s) ≡ replicate 8 (LARGE, 65536)
@@ -146,4 +162,8 @@ pub record Edges : Type 0 where
   pub drafts : Gives (λ (d : Draft). told (written d)) (
       (draft 999999999 (replicate 60 0x01) [], (0, 0)) ∷ (draft 1000000000 (replicate 61 0x01) [], (TIME, 0)) ∷ (draft 0 (0x82 ∷ replicate 60 0x02) (0 ∷ []), (OPTION, 60)) ∷ (draft 0 (0x01 ∷ 0x00 ∷ []) (0 ∷ []), (OPTION, 1))
       ∷ (draft 0 (0x01 ∷ 0x82 ∷ 0x02 ∷ []) (0 ∷ []), (OPTION, 1)) ∷ (draft 0 (0x80 ∷ 0x03 ∷ 0x00 ∷ []) [], (0, 0)) ∷ (draft 0 [] (words (1 ∷ 0x000C0000 ∷ 0 ∷ 2 ∷ [])), (PACKAGE, 12)) ∷ (draft 0 [] (words (1 ∷ 0x000D0000 ∷ 0 ∷ []) ++ (0xAA ∷ [])), (PACKAGE, 0)) ∷ [])
+  -- the writer without room: the count right, wrong, and 0x87 twice; a bad package before it
+  pub draftsCounted : Gives {B = ℕ × ℕ} (λ (d : Draft). (writer d [] .0 .number, writer d [] .0 .place)) (
+      (draft 0 (0x87 ∷ 6 ∷ 0 ∷ 0 ∷ 0 ∷ 2 ∷ []) (drop 24 M), (ROOM, 64)) ∷ (draft 0 (0x87 ∷ 6 ∷ 0 ∷ 0 ∷ 0 ∷ 1 ∷ []) (drop 24 M), (COUNT, 0)) ∷ (draft 0 (0x87 ∷ 6 ∷ 0 ∷ 0 ∷ 0 ∷ 0 ∷ []) [], (ROOM, 32)) ∷ (draft 0 (0x87 ∷ 6 ∷ 0 ∷ 0 ∷ 0 ∷ 1 ∷ []) [], (COUNT, 0))
+      ∷ (draft 0 (0x87 ∷ 6 ∷ 0 ∷ 0 ∷ 0 ∷ 2 ∷ 0x87 ∷ 6 ∷ 0 ∷ 0 ∷ 0 ∷ 2 ∷ []) (drop 24 M), (OPTION, 6)) ∷ (draft 0 (0x87 ∷ 6 ∷ 0 ∷ 0 ∷ 0 ∷ 1 ∷ []) (take 20 (drop 24 M)), (PACKAGE, 16)) ∷ [])
   pub draftsLarge : (o q : List ℕ) → length o ≡ 1 → (length q ≡ 65508 → told (written (draft 1000000000 o q)) ≡ (TIME, 0)) × (length q ≡ 65509 → told (written (draft 1000000000 o q)) ≡ (LARGE, 65536))

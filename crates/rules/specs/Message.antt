@@ -1,13 +1,13 @@
--- Document 01, 'The message', and checks 1 to 10 of 'Refusal numbers': a header's numbers, the record of a message, and a recording.
+-- Document 01, 'The message', and checks 1 to 10 of 'Refusal numbers', with document 02, A2: a header's numbers, the record of a message, and a recording.
 use Prim.Native.Nat.{ℕ, zero, _+_, _*_, _/_, _%_}
 use mathlib.Core.Bool.{Bool, not, _||_}
-use mathlib.Core.List.{List, map}
+use mathlib.Core.List.{List, [], map}
 use lib.Dec.{ltb, eqb}
 use lib.ListN.{length}
-use Rattle.rules.specs.Outcome.{Outcome, good, refuse, _>>_, _>>=_, SHORT, VERSION, TYPE, LENGTH, CUT, TIME, FRAGMENT, STANDARD, LARGE}
+use Rattle.rules.specs.Outcome.{Outcome, good, refuse, _>>_, _>>=_, SHORT, VERSION, TYPE, LENGTH, CUT, TIME, FRAGMENT, STANDARD, LARGE, COUNT}
 use Rattle.rules.specs.Bytes.{at, word, part, oneIfAny}
 use Rattle.rules.specs.Items.{items}
-use Rattle.rules.specs.Options.{optionRunFrom}
+use Rattle.rules.specs.Options.{optionRunFrom, countSaid, differs}
 use Rattle.rules.specs.Packages.{Package, cut, packageOf}
 
 -- the bytes of a header, the most nanoseconds of a time, and the most bytes of an input
@@ -37,17 +37,7 @@ pub record Head : Type 0 where
   pub nanos : ℕ
 
 unfoldable pub head : List ℕ → Head
-head s = record {
-  version = at s 0 / 16;
-  words = at s 0 % 16;
-  kind = at s 1 % 16;
-  flags = at s 3;
-  id = word s 4;
-  sequence = word s 8;
-  size = word s 12;
-  seconds = word s 16;
-  nanos = word s 20;
-}
+head s = record { version = at s 0 / 16; words = at s 0 % 16; kind = at s 1 % 16; flags = at s 3; id = word s 4; sequence = word s 8; size = word s 12; seconds = word s 16; nanos = word s 20 }
 
 -- flag bit 7, all packages have the standard header; bits 5-4, the fragment; and whether bit 3 is 1, simulated
 abbrev pub standardBit : ℕ → ℕ
@@ -85,7 +75,7 @@ checksOneToSix p s h = do
 unfoldable pub optionRunLength : ℕ → List ℕ → Head → Outcome ℕ
 optionRunLength p s h = do
   checksOneToSix p s h
-  optionRunFrom zero (p + headerBytes) zero (part headerBytes (payloadStart h) s)
+  optionRunFrom [] zero (p + headerBytes) zero (part headerBytes (payloadStart h) s)
 
 -- checks 8 and 9
 unfoldable pub checksEightAndNine : ℕ → List ℕ → Head → Outcome (Unit {0})
@@ -107,6 +97,13 @@ checksOneToTen p s h = do
   cs ← cut (p + payloadStart h) (payload s h)
   good (n, cs)
 
+-- every check: 1 to 10, then COUNT, where its option 0x87 says another number than that of its packages
+unfoldable pub everyCheck : ℕ → List ℕ → Head → Outcome (ℕ × List (List ℕ))
+everyCheck p s h = do
+  (n, cs) ← checksOneToTen p s h
+  refuse (differs (countSaid (part headerBytes (headerBytes + n) s)) (length cs)) COUNT p
+  good (n, cs)
+
 -- a message record; flags holds bits 6, 3, 2, 1 and 0, each at its place
 pub record Message : Type 0 where
   pub flags : ℕ
@@ -119,20 +116,12 @@ pub record Message : Type 0 where
 
 -- the record of the message at the start of s, with its option run's length and its packages' pieces
 unfoldable pub recordOf : List ℕ → Head → ℕ × List (List ℕ) → Message
-recordOf s h r = record {
-  flags = recordBits (h .flags);
-  id = h .id;
-  sequence = h .sequence;
-  seconds = h .seconds;
-  nanos = h .nanos;
-  options = part headerBytes (headerBytes + r .0) s;
-  packages = map packageOf (r .1);
-}
+recordOf s h r = record { flags = recordBits (h .flags); id = h .id; sequence = h .sequence; seconds = h .seconds; nanos = h .nanos; options = part headerBytes (headerBytes + r .0) s; packages = map packageOf (r .1) }
 
 -- the message at the start of s, which stands at place p; and how long it is
 unfoldable pub message : ℕ → List ℕ → Outcome (Message × ℕ)
 message p s = do
-  r ← checksOneToTen p s (head s)
+  r ← everyCheck p s (head s)
   good (recordOf s (head s) r, head s .size)
 
 -- the messages of a recording

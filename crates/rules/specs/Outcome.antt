@@ -63,6 +63,9 @@ MARKER = 14
 abbrev pub BLOCKS : ℕ
 BLOCKS = 15
 
+abbrev pub COUNT : ℕ
+COUNT = 17
+
 -- Go on with the value, or stay with the refusal. A `do` block is made of these two: its lines are tried from the top, and the first refusal is the answer
 infixl 1 _>>=_
 unfoldable pub _>>=_ : {A B : Type 0} → Outcome A → (A → Outcome B) → Outcome B

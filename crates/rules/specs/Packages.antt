@@ -1,8 +1,8 @@
--- Document 01, 'Packages' and 'Package time': packages with the standard header, the cut of a payload into them, and what fills a payload.
+-- Document 01, 'Packages' and 'Package time': packages with the standard header, the cut of a payload into them, and the pieces that fill a payload.
 use Prim.Native.Nat.{ℕ, zero, _+_, _*_, _≤_}
 use mathlib.Core.Path.{_≡_}
 use mathlib.Core.Bool.{Bool, not, _&&_}
-use mathlib.Core.List.{List, [], _∷_, _++_}
+use mathlib.Core.List.{List, _∷_}
 use lib.Dec.{leb}
 use lib.ListN.{length, take}
 use Rattle.rules.specs.Outcome.{Outcome, good, refuse, _>>_, _>>=_, PACKAGE}
@@ -50,11 +50,6 @@ pieceOf p = put32 (p .id) (put16 (packageHeader + length (p .content)) (0 ∷ p 
 pub record Piece (c : List ℕ) : Type 0 where
   pub least : packageHeader ≤ packageLength c
   pub whole : length c ≡ pad (packageLength c)
-
--- the pieces, each one package with its padding, fill the bytes exactly
-pub data Fills : List (List ℕ) → List ℕ → Type 0 where
-  none : Fills [] []
-  more : {c : List ℕ} {cs : List (List ℕ)} {s : List ℕ} → Piece c → Fills cs s → Fills (c ∷ cs) (c ++ s)
 
 -- a time as a whole number of nanoseconds
 abbrev pub instant : ℕ → ℕ → ℕ

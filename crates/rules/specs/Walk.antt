@@ -23,15 +23,7 @@ pub record PackageSpot : Type 0 where
 
 -- the package that takes the piece c, n bytes from place p on
 unfoldable pub packageSpot : ℕ → List ℕ → ℕ → PackageSpot
-packageSpot p c n = record {
-  id = word c 0;
-  size = packageLength c;
-  status = at c 7;
-  delta = word c 8;
-  from = p + packageHeader;
-  to = p + packageLength c;
-  next = p + n;
-}
+packageSpot p c n = record { id = word c 0; size = packageLength c; status = at c 7; delta = word c 8; from = p + packageHeader; to = p + packageLength c; next = p + n }
 
 -- what a step finds at place p of the run s: LARGE, the end, PACKAGE, or a package
 unfoldable pub packageAt : List ℕ → ℕ → Outcome (Option PackageSpot)
@@ -44,32 +36,21 @@ packageAt s p = do
       good (some (packageSpot p c n))
   ]
 
--- what it shows: of a package its data, as a part of the run; else nothing
-abbrev pub dataIn : List ℕ → Outcome (Option PackageSpot) → List ℕ
-dataIn s (good (some k)) = part (k .from) (k .to) s
-dataIn s (good none) = []
-dataIn s (bad n p) = []
-
--- where in the run the part shown begins
-abbrev pub startIn : Outcome (Option PackageSpot) → ℕ
-startIn (good (some k)) = k .from
-startIn (good none) = 0
-startIn (bad n p) = 0
-
--- where the walk, which stood at place i, then stands: behind the package and its padding; else it has not moved
-abbrev pub nextIn : ℕ → Outcome (Option PackageSpot) → ℕ
-nextIn i (good (some k)) = k .next
-nextIn i (good none) = i
-nextIn i (bad n p) = i
+-- what a step from place i shows: of a package its data, as a part of the run, where they begin, and where the walk then stands, behind the padding;
+-- at the end and at a refusal nothing, and the walk has not moved
+abbrev pub shownIn : List ℕ → ℕ → Outcome (Option PackageSpot) → List ℕ × ℕ × ℕ
+shownIn s i (good (some k)) = (part (k .from) (k .to) s, k .from, k .next)
+shownIn s i (good none) = ([], 0, i)
+shownIn s i (bad n p) = ([], 0, i)
 
 unfoldable pub dataAt : List ℕ → ℕ → List ℕ
-dataAt s i = dataIn s (packageAt s i)
+dataAt s i = shownIn s i (packageAt s i) .0
 
 unfoldable pub startAt : List ℕ → ℕ → ℕ
-startAt s i = startIn (packageAt s i)
+startAt s i = shownIn s i (packageAt s i) .1
 
 unfoldable pub nextAt : List ℕ → ℕ → ℕ
-nextAt s i = nextIn i (packageAt s i)
+nextAt s i = shownIn s i (packageAt s i) .2
 
 -- the package that a step has found, with its data
 abbrev pub packageIn : List ℕ → PackageSpot → Package

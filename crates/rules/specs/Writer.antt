@@ -1,11 +1,11 @@
--- Document 01, 'Writing and cleaning': the bytes of a message record, and what the writer takes and refuses.
+-- Document 01, 'Writing and cleaning', with document 02, A2: the bytes of a message record, and what the writer takes and refuses.
 use Prim.Native.Nat.{ℕ, zero, _+_, _*_, _/_}
-use mathlib.Core.List.{List, _∷_, _++_, map}
+use mathlib.Core.List.{List, [], _∷_, _++_, map}
 use lib.Dec.{ltb}
 use lib.ListN.{length}
-use Rattle.rules.specs.Outcome.{Outcome, good, refuse, _>>_, _>>=_, LARGE, TIME, OPTION}
+use Rattle.rules.specs.Outcome.{Outcome, good, refuse, _>>_, _>>=_, LARGE, TIME, OPTION, COUNT}
 use Rattle.rules.specs.Bytes.{put32, pad, padded, join, oneIfAny}
-use Rattle.rules.specs.Options.{mostOptionBytes, optionRunFrom}
+use Rattle.rules.specs.Options.{mostOptionBytes, optionRunFrom, countSaid, differs}
 use Rattle.rules.specs.Packages.{cut, packageOf, pieceOf}
 use Rattle.rules.specs.Message.{headerBytes, mostNanos, mostBytes, recordBits, Message}
 use Rattle.rules.specs.Buffer.{Written, stored, fitted}
@@ -39,9 +39,10 @@ accepted d = do
   refuse (ltb mostBytes (headerBytes + pad (length (d .options)) + length (d .packages))) LARGE mostBytes
   refuse (ltb mostNanos (d .nanos)) TIME 0
   refuse (ltb mostOptionBytes (length (d .options))) OPTION mostOptionBytes
-  n ← optionRunFrom zero zero zero (d .options)
+  n ← optionRunFrom [] zero zero zero (d .options)
   refuse (ltb n (length (d .options))) OPTION n
   cs ← cut zero (d .packages)
+  refuse (differs (countSaid (d .options)) (length cs)) COUNT 0
   good (drafted d cs)
 
 unfoldable pub written : Draft → Outcome (List ℕ)

@@ -16,9 +16,9 @@ fn twice() {
     cleaned(&once, &mut again);
 }
 
-// M with option bytes behind an 0x00: two words, the last two bytes zero.
-fn with_options() {
-    let n = crate::message_n();
+// M with option bytes behind an 0x00, which say so many packages: two words, the last two bytes zero.
+fn with_options(packages: u8) {
+    let n = crate::saying(packages);
     let mut out = [0xEEu8; 64];
     cleaned(&n, &mut out);
 }
@@ -44,7 +44,9 @@ pub fn cleaning() {
     twice();
     // One byte too few: ROOM, 56, and the buffer is as it was.
     part(56, 55);
-    with_options();
+    with_options(2);
+    // P7's message says one package and has two: COUNT at 0, and the buffer is as it was.
+    with_options(1);
     // 23 bytes: SHORT at 0. Behind M, what follows is ignored, up to 65,536 bytes.
     part(23, 4);
     part(65537, 4);

@@ -111,6 +111,12 @@ fn cut(count: usize)
     checked(&m[0..count]);
 }
 
+// M with the option bytes of P7, which say so many packages.
+fn saying(packages: u8) {
+    let n = crate::saying(packages);
+    checked(&n);
+}
+
 // M with this word at this place.
 fn with(at: usize, word: u32) {
     let m = crate::changed(at, word);
@@ -151,6 +157,9 @@ pub fn reading() {
     // Flags 0090 and 0000: FRAGMENT and STANDARD.
     with(0, 0x10000090);
     with(0, 0x10000000);
+    // M with option 0x87: it says two packages, and one.
+    saying(2);
+    saying(1);
     // M at its place; behind its end, and further behind, SHORT.
     message_at(0);
     message_at(56);

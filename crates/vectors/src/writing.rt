@@ -40,12 +40,12 @@ fn written(flags: u8, nanos: u32, options: &[u8], packages: &[u8], room: usize)
     crate::show(out);
 }
 
-// M's parts, with this word for the one with the first L, and the first `count` bytes of P7's option run.
+// M's parts, with this word for the one with the first L, and the first `count` bytes of P7's option run, which says so many packages.
 // All flag bits but 7 are 0 in M, and 7 does not count.
-fn parts(length: u32, count: usize, room: usize)
+fn parts(length: u32, count: usize, packages: u8, room: usize)
     requires { ⌜ (count ≤ 6) × (room ≤ 68) ⌝ }
 {
-    let run = *b"\x87\x06\x00\x00\x00\x01";
+    let run = [0x87, 0x06, 0x00, 0x00, 0x00, packages];
     let m = crate::changed(28, length);
     written(0x80, 0, &run[0..count], &m[24..56], room);
 }
@@ -74,7 +74,11 @@ fn refusing() {
     bare(0x80, 0, b"\x01\x00\x01", 4);
     bare(0x80, 0, b"\x80\x04\x00", 4);
     // PACKAGE, its place in the run: M's first L = 17 makes the second package begin at 20.
-    parts(0x00110000, 0, 4);
+    parts(0x00110000, 0, 0, 4);
+    // COUNT at 0: behind PACKAGE, and before ROOM.
+    parts(0x00110000, 6, 1, 4);
+    parts(0x000D0000, 6, 1, 4);
+    bare(0x00, 0, b"\x87\x06\x00\x00\x00\x01", 4);
     // LARGE comes first: 65,513 option bytes; 65,512 are not too many, but more than 60.
     long(1000000000, 65513, 0);
     long(0, 65512, 0);
@@ -83,11 +87,11 @@ fn refusing() {
 }
 
 pub fn writing() {
-    // M's parts give M's clean form; with the option run of P7, N's.
-    parts(0x000D0000, 0, 56);
-    parts(0x000D0000, 6, 68);
+    // M's parts give M's clean form; with an option run that says two packages, that of M with these option bytes.
+    parts(0x000D0000, 0, 0, 56);
+    parts(0x000D0000, 6, 2, 68);
     // One byte too few.
-    parts(0x000D0000, 0, 55);
+    parts(0x000D0000, 0, 0, 55);
     // No packages: flag 7 is 0. Of the flags, bits 6, 3, 2, 1 and 0 are kept.
     bare(0xFF, 999999999, b"", 24);
     refusing();

@@ -1,15 +1,17 @@
 //! The requests that change the paper's own rules, in their words.
 
-use super::{m_with, refused};
+use super::{m_with, m_with_options, refused};
 use crate::answers;
 use crate::copy::{self, Copied};
-use crate::damage::damaged;
+use crate::damage::{damaged, with_faults, FAULTS};
 use crate::dice::Dice;
-use crate::generate::{lay_all, messages, World};
+use crate::drafts::{bad_draft, good_draft};
+use crate::generate::{lay_all, message, messages, World};
 use crate::orders::*;
-use crate::paper::{message_m, row_r};
-use crate::parse::read_recording;
+use crate::paper::{from_hex, message_m, row_r};
+use crate::parse::{check, read_header, read_recording};
 use crate::refusal::*;
+use crate::render::{clean, write, Draft};
 use crate::seams::Seam;
 use crate::sheet::{read_sheet, Row};
 use crate::text::release_copy;
@@ -220,5 +222,130 @@ fn rows_are_made_good_or_bad() {
         for way in 0..BAD_ROWS {
             assert_eq!(read_sheet(&bad_row(dice, way)), refused(ROW, 0), "case {case}, {way}");
         }
+    }
+}
+
+#[test]
+fn a_count_must_equal_the_packages() {
+    assert_eq!(check(&m_with_options("87060000 00020000")), Ok((1, 2)));
+    for wrong in ["00000001", "00000003", "00000000", "00010002", "01000002", "00000102"] {
+        let message = m_with_options(&format!("8706 {wrong} 0000"));
+        assert_eq!(check(&message), refused(COUNT, 0));
+        assert_eq!(clean(&message, &mut [0; 64]), refused(COUNT, 0));
+        assert_eq!(copy::measure(&message, &row_r()), refused(COUNT, 0));
+        assert_eq!(copy::write(&message, &row_r(), &mut []), refused(COUNT, 0));
+        assert_eq!(check(&[message_m(), message.clone()].concat()), refused(COUNT, 56));
+        // Reading a header alone does not count packages.
+        assert_eq!(read_header(&message).unwrap().option_run.len(), 6);
+    }
+    // P7's message counts one package, and M has two.
+    assert_eq!(check(&m_with_options("87060000 000100FF")), refused(COUNT, 0));
+    // Behind an option of kind 0x00, and in another option's data, nothing counts.
+    assert_eq!(check(&m_with_options("00870600 00000100")), Ok((1, 2)));
+    assert_eq!(check(&m_with_options("80088706 00000001")), Ok((1, 2)));
+}
+
+#[test]
+fn without_packages_the_count_is_0() {
+    let mut message = m_with_options("87060000 00000000");
+    message.truncate(32);
+    (message[3], message[15]) = (0, 32);
+    assert_eq!(check(&message), Ok((1, 0)));
+    message[29] = 1;
+    assert_eq!(check(&message), refused(COUNT, 0));
+}
+
+#[test]
+fn a_second_offset_or_count_is_refused_at_its_place() {
+    for kind in ["86", "87"] {
+        let message = m_with_options(&format!("{kind}06 00000002 01 {kind}06 00000002 000000"));
+        assert_eq!(read_header(&message), refused(OPTION, 31));
+        assert_eq!(check(&message), refused(OPTION, 31));
+        assert_eq!(clean(&message, &mut [0; 72]), refused(OPTION, 31));
+        assert_eq!(copy::measure(&message, &row_r()), refused(OPTION, 31));
+        // Behind an option of kind 0x00 it is not read.
+        let message = m_with_options(&format!("{kind}06 00000002 00 {kind}06 00000002 000000"));
+        assert_eq!(check(&message), Ok((1, 2)));
+    }
+    // One of each, and two of another kind.
+    assert_eq!(check(&m_with_options("86060000 00058706 00000002")), Ok((1, 2)));
+    assert_eq!(check(&m_with_options("80060000 00028006 00000002")), Ok((1, 2)));
+    // A third does not count, and a bad length is found there all the same.
+    let thrice = m_with_options("8706 00000002 8706 00000002 8706 00000002 0000");
+    assert_eq!(check(&thrice), refused(OPTION, 30));
+    assert_eq!(check(&m_with_options("87060000 00028705 00000002")), refused(OPTION, 30));
+}
+
+#[test]
+fn count_comes_directly_after_package() {
+    let bad = m_with_options("87060000 00010000");
+    assert_eq!(check(&[bad.clone(), m_with(0, "20")].concat()), refused(COUNT, 0));
+    assert_eq!(check(&[m_with(0, "20"), bad.clone()].concat()), refused(VERSION, 0));
+    let mut package = bad.clone();
+    package[37] = 11;
+    assert_eq!(check(&package), refused(PACKAGE, 32));
+    let mut fragment = bad;
+    fragment[3] |= 0x10;
+    assert_eq!(check(&fragment), refused(FRAGMENT, 0));
+}
+
+#[test]
+fn the_writer_counts_after_the_packages_and_before_room() {
+    let m = message_m();
+    let draft = |options: &str, packages: &[u8], room: usize| {
+        let options = &from_hex(options);
+        let numbers = Draft {
+            flags: 0,
+            message_id: 7,
+            sequence: 5,
+            seconds: 100,
+            nanoseconds: 0,
+            options,
+            packages,
+        };
+        write(&numbers, &mut vec![0; room])
+    };
+    assert_eq!(draft("8706 00000002", &m[24..], 64), Ok(64));
+    assert_eq!(draft("8706 00000002", &m[24..], 63), refused(ROOM, 64));
+    assert_eq!(draft("8706 00000001", &m[24..], 0), refused(COUNT, 0));
+    assert_eq!(draft("8706 00000001", &m[24..55], 0), refused(PACKAGE, 16));
+    assert_eq!(draft("8706 00000000", &[], 32), Ok(32));
+    assert_eq!(draft("8706 00000002 8706 00000002", &m[24..], 0), refused(OPTION, 6));
+    assert_eq!(draft("8606 00000002 05 8606 00000002", &m[24..], 0), refused(OPTION, 7));
+    // The zero comes first.
+    assert_eq!(draft("8706 00000002 00 8706 00000002", &m[24..], 0), refused(OPTION, 6));
+}
+
+/// Good recordings and drafts pass; faults and bad drafts reach every number.
+#[test]
+fn messages_are_made_good_or_bad() {
+    for case in 0..2_000 {
+        let dice = &mut Dice::new(24, case);
+        let world = World::new(dice);
+        let recording = lay_all(&messages(dice, &world)).0;
+        assert!(recording.len() > MOST_BYTES || check(&recording).is_ok(), "case {case}");
+        let draft = good_draft(dice);
+        assert!(write(&draft.borrowed(), &mut [0; MOST_BYTES]).is_ok(), "case {case}");
+    }
+    let mut checked = [0; NUMBERS];
+    let mut written = [0; NUMBERS];
+    for case in 0..2_000 {
+        let dice = &mut Dice::new(25, case);
+        let world = World::new(dice);
+        let fault = dice.pick(&FAULTS);
+        let mut one = [message(dice, &world, 2)];
+        let recording = with_faults(dice, &mut one, &[(0, fault)]);
+        if let Err(refusal) = check(&recording) {
+            checked[refusal.number as usize] += 1;
+        }
+        if let Err(refusal) = write(&bad_draft(dice).borrowed(), &mut []) {
+            written[refusal.number as usize] += 1;
+        }
+    }
+    for number in FAULTS {
+        assert!(checked[number as usize] > 50, "checking reaches {number} too seldom");
+    }
+    for number in [LARGE, TIME, OPTION, PACKAGE, COUNT, ROOM] {
+        assert!(written[number as usize] > 50, "writing reaches {number} too seldom");
     }
 }

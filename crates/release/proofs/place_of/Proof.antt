@@ -5,7 +5,7 @@ use mathlib.Core.Logic.{⊎-elim}
 use Prim.Native.Nat.{_+_, _-_, _≤_}
 use native.Mathlib.Omega.{arith}
 use lib.ListN.{length}
-use Rattle.rules.specs.Copy.{count}
+use Rattle.rules.specs.Items.{count}
 use Rattle.release.proofs.Counts.{Seeking, seek-start, seek-ended, seek-miss, seek-hit}
 use Rattle.release.proofs.place_of.Statement.{statement}
 use Rattle.release.proofs.place_of.Tie as tie
