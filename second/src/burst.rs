@@ -33,12 +33,20 @@ const fn sequence_bytes() -> [u8; PERIOD] {
     bytes
 }
 
-/// Exclusive-ors byte k with sequence byte k.
+/// Exclusive-ors byte k with sequence byte k, period by period.
 fn apply_sequence(buffer: &mut [u8]) {
-    for period in buffer.chunks_mut(PERIOD) {
-        for (byte, sequence) in period.iter_mut().zip(&SEQUENCE) {
-            *byte ^= sequence;
-        }
+    let (periods, rest) = buffer.as_chunks_mut::<PERIOD>();
+    for period in periods {
+        apply_period(period);
+    }
+    apply_period(rest);
+}
+
+/// Exclusive-ors these bytes, a period at most, with the sequence's first ones.
+#[inline]
+fn apply_period(bytes: &mut [u8]) {
+    for (byte, sequence) in bytes.iter_mut().zip(&SEQUENCE) {
+        *byte ^= sequence;
     }
 }
 

@@ -1,7 +1,7 @@
 //! The limits: fixed inputs at and just above each limit of the paper, and the
 //! paper's own numbers. They are part of every run.
 
-use crate::burst::{CODEBLOCK_BYTES, MARKER_BYTES};
+use crate::burst::{CODEBLOCK_BYTES, MARKER_BYTES, PERIOD};
 use crate::damage::{with_faults, FAULTS};
 use crate::demand::{changed, withheld, CHANGED, WITHHELD};
 use crate::dice::Dice;
@@ -11,6 +11,7 @@ use crate::judge::Judge;
 use crate::measuring::measured_then_written;
 use crate::orders::*;
 use crate::paper::{m_with, m_with_options, message_m, row_r};
+use crate::refusal::MOST_BYTES;
 use crate::releases::{acquired, neighbours, set_simulated};
 use crate::round_trips::{trip, TRIPS};
 use crate::seams::Seam;
@@ -637,13 +638,19 @@ fn bursts(limits: &mut Limits) {
         let bytes = limits.dice.bytes(length);
         limits.randomize(&bytes);
     }
+    // A last part of every length behind no period, one, two, and the most.
+    for length in (0..3 * PERIOD).chain(MOST_BYTES - PERIOD..=MOST_BYTES) {
+        let bytes = limits.dice.bytes(length);
+        limits.randomize(&bytes);
+    }
     for length in 0..8 {
         limits.open_burst(&MARKER_BYTES[..length]);
     }
     let whole = |codeblocks: usize| 8 + CODEBLOCK_BYTES * codeblocks;
     let mut lengths = vec![8, 9, 775, 777, 65_535, 65_536, 65_537, 65_544];
+    lengths.extend((1..=85).map(whole));
     for codeblocks in [1, 2, 3, 79, 80, 81, 82, 83, 84, 85] {
-        lengths.extend([whole(codeblocks) - 1, whole(codeblocks), whole(codeblocks) + 1]);
+        lengths.extend([whole(codeblocks) - 1, whole(codeblocks) + 1]);
     }
     for length in lengths {
         let mut burst = limits.dice.bytes(length);

@@ -1,7 +1,9 @@
 // Bursts: the randomizer, which works in a lent buffer, and the opening of a burst.
 use refusal::Refusal;
 use refusal::Why;
+ghost use Prim.Native.Nat.{_≤_};
 ghost use mathlib.Core.Path.{_≡_};
+ghost use lib.ListN.{length};
 ghost use Rattle.rules.specs.Burst.{sequenceBytes, randomized, marked, blocksFit, codeblocks, randomizer, opener};
 ghost use Rattle.burst.specs.Told.{toldRandomized, toldOpened};
 
@@ -282,16 +284,31 @@ fn period() -> [u8; 255]
     PERIOD
 }
 
-// Randomizes a buffer of any length. The table is in a local, since a constant that a loop names is stored anew in each turn.
+// Randomizes at most one period, from the sequence's first byte on. The table is lent, since a constant that a loop names is stored anew in each turn.
+fn randomize_part(part: &mut [u8], table: &[u8; 255])
+    requires { ⌜ length (now part) ≤ 255 ⌝ }
+    requires { ⌜ now table ≡ sequenceBytes 0 255 ⌝ }
+    ensures { λ _. ⌜ now (part .exit) ≡ randomized 0 (now (part .entry)) ⌝ }
+{
+    let mut k = 0;
+    while k < part.len() {
+        part[k] = part[k] ^ table[k];
+        k += 1;
+    }
+}
+
+// Randomizes a buffer of any length: period after period, then what is left. A turn is 255 bytes exactly, so that the compiler puts them into vector registers.
 fn randomize_all(buf: &mut [u8])
     ensures { λ _. ⌜ now (buf .exit) ≡ randomized 0 (now (buf .entry)) ⌝ }
 {
     let table = period();
-    let mut k = 0;
-    while k < buf.len() {
-        buf[k] = buf[k] ^ table[k % 255];
-        k += 1;
+    let mut at = 0;
+    while 255 <= buf.len() - at {
+        let end = at + 255;
+        randomize_part(&mut buf[at..end], &table);
+        at = end;
     }
+    randomize_part(&mut buf[at..], &table);
 }
 
 // Randomizes a buffer. Randomizing it again gives its bytes back.

@@ -1,8 +1,8 @@
 //! Times the library's exports against the second program and against a plain
-//! copy of the same bytes, and measuring a copy beside writing it. The ways take
-//! turns; medians are shown.
+//! copy of the same bytes, bursts also against a bytewise loop, and measuring a
+//! copy beside writing it. The ways take turns; medians are shown.
 
-use second::burst::{CODEBLOCK_BYTES, MARKER_BYTES};
+use second::burst::{CODEBLOCK_BYTES, MARKER_BYTES, PERIOD, SEQUENCE};
 use second::dice::Dice;
 use second::exports::raw;
 use second::generate::{lay_all, DirtyMessage, DirtyPackage};
@@ -14,7 +14,7 @@ use std::process::ExitCode;
 use std::time::Instant;
 
 const SIZES: [usize; 3] = [4_096, 16_384, 65_536];
-const CODEBLOCKS: [usize; 3] = [5, 21, 80];
+const CODEBLOCKS: [usize; 4] = [1, 5, 21, 80];
 /// One sample takes about so many nanoseconds.
 const SAMPLE: f64 = 40_000.0;
 
@@ -49,6 +49,14 @@ struct Line {
     name: String,
     bytes: usize,
     medians: [f64; 3],
+}
+
+/// The medians of randomizing the same bytes, in nanoseconds: the export, a
+/// bytewise loop over the table, the second program, the plain copy.
+struct BurstLine {
+    name: String,
+    bytes: usize,
+    medians: [f64; 4],
 }
 
 /// The medians of measuring and of writing the same copy, in nanoseconds: by
@@ -90,14 +98,30 @@ fn main() -> ExitCode {
             copies.push(lines);
         }
     }
-    for codeblocks in CODEBLOCKS {
-        show(&time_open_burst(codeblocks, repetitions));
-    }
     println!("\ncost per byte at 64 KiB over that at 4 KiB");
     println!("{:<44}{:>11}{:>11}", "", "export", "second");
     for [least, _, most] in &copies {
         let (export, second) = (growth(least, most, 0), growth(least, most, 1));
         println!("{:<44}{export:>11.2}{second:>11.2}", least.name);
+    }
+    println!("\nbursts beside a bytewise loop over the table");
+    println!(
+        "{:<28}{:>7}{:>11}{:>13}{:>11}{:>11}{:>17}{:>15}{:>15}",
+        "",
+        "bytes",
+        "export ns",
+        "bytewise ns",
+        "second ns",
+        "memcpy ns",
+        "export/bytewise",
+        "export/second",
+        "export/memcpy"
+    );
+    for codeblocks in CODEBLOCKS {
+        show_burst(&time_open_burst(codeblocks, repetitions));
+    }
+    for codeblocks in CODEBLOCKS {
+        show_burst(&time_randomize(codeblocks, repetitions));
     }
     println!("\nmeasuring a copy beside writing it");
     println!(
@@ -120,6 +144,18 @@ fn show(line: &Line) {
         "{:<44}{:>7}{export:>11.0}{second:>11.0}{memcpy:>11.0}{:>15.2}{:>15.2}",
         line.name,
         line.bytes,
+        export / second,
+        export / memcpy
+    );
+}
+
+fn show_burst(line: &BurstLine) {
+    let [export, bytewise, second, memcpy] = line.medians;
+    println!(
+        "{:<28}{:>7}{export:>11.0}{bytewise:>13.0}{second:>11.0}{memcpy:>11.0}{:>17.3}{:>15.2}{:>15.2}",
+        line.name,
+        line.bytes,
+        export / bytewise,
         export / second,
         export / memcpy
     );
@@ -419,25 +455,83 @@ fn time_beside(shape: Shape, kind: Kind, size: usize, repetitions: usize) -> Bes
     }
 }
 
-fn time_open_burst(codeblocks: usize, repetitions: usize) -> Line {
+/// Exclusive-ors byte k with byte k of the table's repetition, one by one.
+fn bytewise(bytes: &mut [u8]) {
+    for (k, byte) in bytes.iter_mut().enumerate() {
+        *byte ^= SEQUENCE[k % PERIOD];
+    }
+}
+
+/// A burst of so many codeblocks.
+fn burst_of(codeblocks: usize) -> Vec<u8> {
     let mut burst = MARKER_BYTES.to_vec();
     burst.extend(Dice::new(9, codeblocks as u64).bytes(CODEBLOCK_BYTES * codeblocks));
-    let length = burst.len();
-    let mut values = [0; 2];
-    // Opening twice gives the burst back, so a burst is opened again and again.
-    let mut outs = [burst.clone(), burst.clone(), burst.clone()];
-    let [export_burst, second_burst, target] = &mut outs;
-    let mut export = || {
-        let bytes = black_box(&mut *export_burst);
+    burst
+}
+
+fn burst_name(what: &str, codeblocks: usize) -> String {
+    let plural = if codeblocks == 1 { "" } else { "s" };
+    format!("{what}, {codeblocks} codeblock{plural}")
+}
+
+/// Times opening a burst; the bytewise loop gets its codeblocks and checks nothing.
+fn time_open_burst(codeblocks: usize, repetitions: usize) -> BurstLine {
+    let export = |bytes: &mut [u8]| {
+        let mut values = [0; 2];
         // The pointer and the length are those of the burst.
-        let number =
-            unsafe { raw::hibernaxo_open_burst(bytes.as_mut_ptr(), length, values.as_mut_ptr()) };
-        assert_eq!(black_box(number), 0);
+        let number = unsafe {
+            raw::hibernaxo_open_burst(bytes.as_mut_ptr(), bytes.len(), values.as_mut_ptr())
+        };
+        assert_eq!(black_box((number, values)), (0, [0, codeblocks as u64]));
     };
-    let mut second = || {
-        assert!(burst::open_burst(black_box(&mut *second_burst)).is_ok());
+    let bytewise = |bytes: &mut [u8]| bytewise(&mut bytes[MARKER_BYTES.len()..]);
+    let second = |bytes: &mut [u8]| {
+        assert_eq!(black_box(burst::open_burst(bytes)), Ok(codeblocks));
     };
-    let mut plain = || memcpy(&burst, target);
-    let medians = medians(repetitions, [&mut export, &mut second, &mut plain]);
-    Line { name: "open burst".to_string(), bytes: length, medians }
+    let name = burst_name("open burst", codeblocks);
+    time_burst(name, &burst_of(codeblocks), export, bytewise, second, repetitions)
+}
+
+/// Times randomizing the bytes of so many codeblocks.
+fn time_randomize(codeblocks: usize, repetitions: usize) -> BurstLine {
+    let export = |bytes: &mut [u8]| {
+        let mut values = [0; 1];
+        // The pointer and the length are those of the buffer.
+        let number = unsafe {
+            raw::hibernaxo_randomize(bytes.as_mut_ptr(), bytes.len(), values.as_mut_ptr())
+        };
+        assert_eq!(black_box((number, values)), (0, [0]));
+    };
+    let second = |bytes: &mut [u8]| assert_eq!(black_box(burst::randomize(bytes)), Ok(()));
+    let name = burst_name("randomize", codeblocks);
+    let bytes = &burst_of(codeblocks)[MARKER_BYTES.len()..];
+    time_burst(name, bytes, export, bytewise, second, repetitions)
+}
+
+/// Times three ways to randomize the same bytes, and the plain copy. Twice gives
+/// the bytes back, so a buffer is randomized again and again.
+fn time_burst(
+    name: String,
+    bytes: &[u8],
+    export: impl Fn(&mut [u8]),
+    bytewise: impl Fn(&mut [u8]),
+    second: impl Fn(&mut [u8]),
+    repetitions: usize,
+) -> BurstLine {
+    let mut outs = [(); 4].map(|()| bytes.to_vec());
+    let [export_out, bytewise_out, second_out, target] = &mut outs;
+    for turn in 0..2 {
+        export(export_out);
+        bytewise(bytewise_out);
+        second(second_out);
+        let equal = export_out == bytewise_out && export_out == second_out;
+        assert!(equal, "the ways differ");
+        assert!((export_out == bytes) == (turn == 1), "twice does not give the bytes back");
+    }
+    let mut export = || export(black_box(export_out));
+    let mut bytewise = || bytewise(black_box(bytewise_out));
+    let mut second = || second(black_box(second_out));
+    let mut plain = || memcpy(bytes, target);
+    let medians = medians(repetitions, [&mut export, &mut bytewise, &mut second, &mut plain]);
+    BurstLine { name, bytes: bytes.len(), medians }
 }
