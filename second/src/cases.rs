@@ -8,9 +8,10 @@ use crate::generate::*;
 use crate::judge::Judge;
 use crate::lent::room_for;
 use crate::orders::{bad_sheet, everything, pack_sheet, rows, targets, Target};
+use crate::pairs::Pair;
 use crate::refusal::{MOST_BYTES, ROOM};
 use crate::seams::Seam;
-use crate::{copy, demand, measuring, releases, render, round_trips, side_by_side};
+use crate::{copy, demand, in_turn, measuring, releases, render, round_trips, side_by_side};
 
 type Case = fn(&mut Judge, &mut Dice);
 
@@ -33,18 +34,33 @@ const KINDS: [(u64, Case); 15] = [
     (5, round_trips::case),
 ];
 
-/// Runs the case with this number.
+/// What is tried beside these cases: one case beside each so many of them.
+const BESIDE: [(u64, Case); 1] = [(7, pair_case)];
+
+/// Runs the case with this number, and what is tried beside it.
 pub fn run(judge: &mut Judge, seed: u64, case: u64) {
-    judge.begin(format!("case {case} of seed {seed} (repeat it with --seed {seed} --only {case})"));
+    let repeat = format!("case {case} of seed {seed} (repeat it with --seed {seed} --only {case})");
+    judge.begin(repeat.clone());
     let mut dice = Dice::new(seed, case);
+    kind_of(case)(judge, &mut dice);
+    for (each, beside) in BESIDE {
+        if case.is_multiple_of(each) {
+            judge.begin(format!("beside {repeat}"));
+            beside(judge, &mut dice);
+        }
+    }
+}
+
+fn kind_of(case: u64) -> Case {
     // 37 has no divisor in common with 100, so the kinds take turns.
     let mut slot = case.wrapping_mul(37) % 100;
     for (share, kind) in KINDS {
         if slot < share {
-            return kind(judge, &mut dice);
+            return kind;
         }
         slot -= share;
     }
+    unreachable!("the shares of all kinds are a hundred");
 }
 
 /// The bytes that a good call needs: what a call without a buffer asks for.
@@ -262,6 +278,12 @@ fn acquired_case(judge: &mut Judge, dice: &mut Dice) {
     let mut rows = rows(dice, &targets(&messages));
     rows.truncate(16);
     releases::acquired(judge, dice, &messages, &rows);
+}
+
+fn pair_case(judge: &mut Judge, dice: &mut Dice) {
+    judge.kind("two sheets in turn");
+    let pair = Pair::new(dice);
+    in_turn::in_turn(judge, dice, &pair);
 }
 
 fn randomize_case(judge: &mut Judge, dice: &mut Dice) {

@@ -27,18 +27,32 @@ pub struct Copied {
     pub packages: usize,
 }
 
-/// The released list of a recording under these rows.
-pub fn released_list<'a>(recording: &[Placed<'a>], rows: &[Row]) -> Vec<Entry<'a>> {
-    recording.iter().filter_map(|placed| entry_of(&placed.message, rows)).collect()
+/// Do these rows grant this package of the message?
+pub fn is_granted(rows: &[Row], message: &Message, package: &Package) -> bool {
+    let time = package_time(message.seconds, message.nanoseconds, package.delta);
+    granted(rows, message.message_id, package.id, time, message.simulated())
 }
 
-/// The message's entry, if one of its packages is granted.
-fn entry_of<'a>(message: &Message<'a>, rows: &[Row]) -> Option<Entry<'a>> {
-    let is_granted = |package: &&Package| {
-        let time = package_time(message.seconds, message.nanoseconds, package.delta);
-        granted(rows, message.message_id, package.id, time, message.simulated())
-    };
-    let packages: Vec<Package> = message.packages.iter().filter(is_granted).cloned().collect();
+/// The released list of a recording under these rows.
+pub fn released_list<'a>(recording: &[Placed<'a>], rows: &[Row]) -> Vec<Entry<'a>> {
+    list_of(recording, |message, package| is_granted(rows, message, package))
+}
+
+/// The list of all packages of a recording that are to be released.
+pub fn list_of<'a>(
+    recording: &[Placed<'a>],
+    released: impl Fn(&Message, &Package) -> bool,
+) -> Vec<Entry<'a>> {
+    recording.iter().filter_map(|placed| entry_of(&placed.message, &released)).collect()
+}
+
+/// The message's entry, if one of its packages is to be released.
+fn entry_of<'a>(
+    message: &Message<'a>,
+    released: impl Fn(&Message, &Package) -> bool,
+) -> Option<Entry<'a>> {
+    let chosen = message.packages.iter().filter(|package| released(message, package));
+    let packages: Vec<Package> = chosen.cloned().collect();
     (!packages.is_empty()).then_some(Entry {
         message_id: message.message_id,
         seconds: message.seconds,
@@ -93,7 +107,11 @@ pub fn measure(recording: &[u8], sheet: &[u8]) -> Result<Copied, Refusal> {
 
 /// Writes the copy: what measuring refuses, then ROOM.
 pub fn write(recording: &[u8], sheet: &[u8], buffer: &mut [u8]) -> Result<Copied, Refusal> {
-    let entries = released(recording, sheet)?;
+    write_list(released(recording, sheet)?, buffer)
+}
+
+/// Writes the copy of a released list, if the buffer has room.
+pub fn write_list(entries: Vec<Entry>, buffer: &mut [u8]) -> Result<Copied, Refusal> {
     let needed = measured(&entries).bytes;
     ask(needed <= buffer.len(), ROOM, needed)?;
     let mut written = Copied { bytes: 0, messages: 0, packages: 0 };

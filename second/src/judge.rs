@@ -21,6 +21,8 @@ pub const EXPORTS: [(&str, &[u32]); 10] = [
 
 /// So many differences are printed; the others are only counted.
 const MOST_SHOWN: u64 = 5;
+/// Of so many trials of a claim at least one tells something.
+const TELLING_OF: u64 = 10;
 /// So many bytes of a buffer are printed.
 const MOST_DUMPED: usize = 128;
 
@@ -31,6 +33,8 @@ pub struct Judge {
     cases: u64,
     /// How many cases of each kind there were, in the order of the first.
     kinds: Vec<(String, u64)>,
+    /// For each claim that was tried, how often, and how often it told something.
+    trials: Vec<(&'static str, u64, u64)>,
     /// For each export, how often each number was its answer.
     reached: [[u64; NUMBERS]; EXPORTS.len()],
     differences: u64,
@@ -43,6 +47,7 @@ impl Judge {
             case: String::new(),
             cases: 0,
             kinds: Vec::new(),
+            trials: Vec::new(),
             reached: [[0; NUMBERS]; EXPORTS.len()],
             differences: 0,
             trace,
@@ -64,6 +69,17 @@ impl Judge {
             Some((_, count)) => *count += 1,
             None => self.kinds.push((kind.to_string(), 1)),
         }
+    }
+
+    /// Counts a trial of a claim, and whether it told something: whether a claim
+    /// that does not hold could have been seen there.
+    pub fn trial(&mut self, claim: &'static str, telling: bool) {
+        let at = self.trials.iter().position(|(name, ..)| *name == claim).unwrap_or_else(|| {
+            self.trials.push((claim, 0, 0));
+            self.trials.len() - 1
+        });
+        self.trials[at].1 += 1;
+        self.trials[at].2 += u64::from(telling);
     }
 
     pub fn cases(&self) -> u64 {
@@ -128,16 +144,24 @@ impl Judge {
         });
     }
 
-    /// Prints the tally. The run is good if nothing differs and every number
-    /// that an export can give was reached.
+    /// Prints the tally. The run is good if nothing differs, enough trials of
+    /// each claim told something, and every number that an export can give was
+    /// reached.
     pub fn report(&mut self) -> bool {
         println!("cases of each kind:");
         for (kind, count) in &self.kinds {
             println!("  {count:>7}  {kind}");
         }
+        let mut missed = Vec::new();
+        println!("trials of each claim, and how many told something:");
+        for (claim, trials, telling) in &self.trials {
+            println!("  {trials:>7}  {claim}: {telling}");
+            if telling * TELLING_OF < *trials {
+                missed.push(format!("too few trials told something: {claim}"));
+            }
+        }
         println!("calls of each export, and how often each number was its answer:");
         let mut sums = [0; NUMBERS];
-        let mut missed = Vec::new();
         for ((name, numbers), reached) in EXPORTS.iter().zip(&self.reached) {
             let calls: u64 = reached.iter().sum();
             let mut line = format!("  {calls:>7}  {name}:");
@@ -150,7 +174,7 @@ impl Judge {
             println!("{line}");
             for (number, refusal) in NAMES {
                 if numbers.contains(&number) && reached[number as usize] == 0 {
-                    missed.push(format!("{name} never answered {number} {refusal}"));
+                    missed.push(format!("not reached: {name} never answered {number} {refusal}"));
                 }
             }
         }
@@ -159,7 +183,7 @@ impl Judge {
             println!("  {:>7}  {number} {refusal}", sums[number as usize]);
         }
         for line in &missed {
-            println!("not reached: {line}.");
+            println!("{line}.");
         }
         missed.is_empty() && self.differences == 0
     }

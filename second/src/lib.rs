@@ -20,6 +20,7 @@ pub mod dice;
 pub mod drafts;
 pub mod generate;
 pub mod orders;
+pub mod pairs;
 pub mod seams;
 
 // The comparison with the library's exports.
@@ -30,6 +31,8 @@ pub mod cases;
 pub mod demand;
 #[cfg(feature = "exports")]
 pub mod exports;
+#[cfg(feature = "exports")]
+pub mod in_turn;
 pub mod judge;
 pub mod lent;
 #[cfg(feature = "exports")]

@@ -7,9 +7,11 @@ use crate::demand::{changed, withheld, CHANGED, WITHHELD};
 use crate::dice::Dice;
 use crate::drafts::{draft_of, OwnDraft};
 use crate::generate::*;
+use crate::in_turn::in_turn;
 use crate::judge::Judge;
 use crate::measuring::measured_then_written;
 use crate::orders::*;
+use crate::pairs::Pair;
 use crate::paper::{m_with, m_with_options, message_m, row_r};
 use crate::refusal::MOST_BYTES;
 use crate::releases::{acquired, neighbours, set_simulated};
@@ -21,7 +23,7 @@ use crate::side_by_side;
 type Part = fn(&mut Limits);
 
 /// The parts in their order.
-const PARTS: [(&str, Part); 16] = [
+const PARTS: [(&str, Part); 17] = [
     ("the paper's numbers", paper_numbers),
     ("sizes", sizes),
     ("faults", faults),
@@ -32,6 +34,7 @@ const PARTS: [(&str, Part); 16] = [
     ("grants", grants),
     ("neighbouring windows", neighbouring_windows),
     ("acquired data only", acquired_only),
+    ("two sheets in turn", two_sheets),
     ("the copy's order", copy_order),
     ("measuring", measuring),
     ("sequence numbers", sequence_numbers),
@@ -515,29 +518,55 @@ fn grants(limits: &mut Limits) {
     }
 }
 
-/// Seams at the ends of time, on whole seconds and beside them, and in windows
-/// of one moment.
+const SECOND: u64 = 1_000_000_000;
+
+/// Where two windows start, meet and end: at the ends of time, on whole seconds
+/// and beside them, and windows of one moment.
+const SEAMS: [(u64, u64, u64); 12] = [
+    (0, 1, 2),
+    (0, 1, LATEST),
+    (LATEST - 2, LATEST - 1, LATEST),
+    (0, LATEST - 1, LATEST),
+    (0, LATEST / 2, LATEST),
+    (100 * SECOND, 100 * SECOND + 10, 100 * SECOND + 11),
+    (100 * SECOND, 100 * SECOND + 10, 101 * SECOND),
+    (5 * SECOND, 6 * SECOND, 7 * SECOND),
+    (5 * SECOND, 6 * SECOND - 1, 7 * SECOND),
+    (5 * SECOND, 6 * SECOND + 1, 7 * SECOND),
+    ((1 << 32) - 1, 1 << 32, (1 << 32) + 1),
+    ((1 << 31) * SECOND - 1, (1 << 31) * SECOND, (1 << 31) * SECOND + 1),
+];
+
 fn neighbouring_windows(limits: &mut Limits) {
-    let seconds = |seconds: u64| 1_000_000_000 * seconds;
-    for (start, seam, end) in [
-        (0, 1, 2),
-        (0, 1, LATEST),
-        (LATEST - 2, LATEST - 1, LATEST),
-        (0, LATEST - 1, LATEST),
-        (0, LATEST / 2, LATEST),
-        (seconds(100), seconds(100) + 10, seconds(100) + 11),
-        (seconds(100), seconds(100) + 10, seconds(101)),
-        (seconds(5), seconds(6), seconds(7)),
-        (seconds(5), seconds(6) - 1, seconds(7)),
-        (seconds(5), seconds(6) + 1, seconds(7)),
-        ((1 << 32) - 1, 1 << 32, (1 << 32) + 1),
-        (seconds(1 << 31) - 1, seconds(1 << 31), seconds(1 << 31) + 1),
-    ] {
+    for (start, seam, end) in SEAMS {
         for _ in 0..5 {
             let seam = Seam::at(&mut limits.dice, start, seam, end);
             limits.next("neighbouring windows");
             neighbours(limits.judge, &mut limits.dice, &seam);
         }
+    }
+}
+
+/// Windows that touch or overlap at each seam, and sheets of few rows and of as
+/// many as there may be.
+fn two_sheets(limits: &mut Limits) {
+    let mut pairs = Vec::new();
+    for (start, seam, end) in SEAMS {
+        for _ in 0..5 {
+            let seam = Seam::at(&mut limits.dice, start, seam, end);
+            pairs.push(Pair::at_seam(&mut limits.dice, seam));
+        }
+    }
+    for (first, second) in
+        [(0, 0), (0, 1), (1, 1), (1, 31), (16, 16), (31, 1), (31, 2), (32, 0), (32, 32)]
+    {
+        for _ in 0..5 {
+            pairs.push(Pair::of_rows(&mut limits.dice, first, second));
+        }
+    }
+    for pair in pairs {
+        limits.next("two sheets in turn");
+        in_turn(limits.judge, &mut limits.dice, &pair);
     }
 }
 

@@ -104,6 +104,35 @@ pub fn row_around(dice: &mut Dice, target: Target) -> Row {
     Row { acquired_only, ..row_of(message, package, time) }
 }
 
+/// A row from one target to another: in time, in message ids or in package ids,
+/// or in some of these, and with everything in the others. Some windows end at
+/// the later one and leave it out.
+pub fn row_between(dice: &mut Dice, one: Target, other: Target) -> Row {
+    let between = |narrow: bool, one: u64, other: u64, most: u64| {
+        if narrow {
+            (one.min(other).min(most), one.max(other).min(most))
+        } else {
+            (0, most)
+        }
+    };
+    let ids = u64::from(u32::MAX);
+    let narrow = dice.pick(&[1, 1, 1, 1, 2, 3, 4, 5, 7]);
+    let mut time = between(narrow & 1 != 0, one.time, other.time, LATEST - 1);
+    let message = between(narrow & 2 != 0, one.message_id.into(), other.message_id.into(), ids);
+    let package = between(narrow & 4 != 0, one.package_id.into(), other.package_id.into(), ids);
+    if time.0 < time.1 && dice.chance(1, 5) {
+        time.1 -= 1;
+    }
+    Row { acquired_only: dice.chance(1, 8), ..row_of(message, package, time) }
+}
+
+/// A row for the ids and the moment of this target and for nothing else.
+pub fn row_at(target: Target) -> Row {
+    let (message, package) = (target.message_id.into(), target.package_id.into());
+    let time = target.time.min(LATEST - 1);
+    row_of((message, message), (package, package), (time, time))
+}
+
 /// A row of these ranges, which have both their ends; the row's window ends
 /// just behind the last time.
 fn row_of(message: (u64, u64), package: (u64, u64), time: (u64, u64)) -> Row {

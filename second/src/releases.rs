@@ -12,10 +12,10 @@ use crate::side_by_side;
 use std::ops::Range;
 
 /// A copy as the exports give it: number and values, and its bytes.
-type Copy = ([u64; 5], Vec<u8>);
+pub type Copy = ([u64; 5], Vec<u8>);
 
 /// The copy of a recording under these rows.
-fn copy_under(judge: &mut Judge, dice: &mut Dice, recording: &[u8], rows: &[Row]) -> Copy {
+pub fn copy_under(judge: &mut Judge, dice: &mut Dice, recording: &[u8], rows: &[Row]) -> Copy {
     let sheet = pack_sheet(rows);
     let (answer, out) = side_by_side::copy(judge, dice, recording, &sheet, recording.len());
     let bytes = out.get(..answer.values[1] as usize).unwrap_or_default();

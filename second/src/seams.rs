@@ -3,7 +3,7 @@
 
 use crate::dice::Dice;
 use crate::generate::*;
-use crate::orders::{row_near, targets, with_window, LATEST};
+use crate::orders::{everything, row_near, targets, with_window, LATEST};
 use crate::sheet::Row;
 
 /// Two neighbouring windows, and a recording whose packages are numbered by
@@ -87,6 +87,18 @@ impl Seam {
         self.rows.iter().map(|row| with_window(*row, self.start, self.end)).collect()
     }
 
+    /// A sheet in which each row has one of these windows, and some rows are for
+    /// every id.
+    pub fn sheet(&self, dice: &mut Dice, windows: &[(u64, u64)]) -> Vec<Row> {
+        let mut rows = Vec::new();
+        for row in &self.rows {
+            let row = if dice.chance(1, 2) { everything() } else { *row };
+            let (start, end) = dice.pick(windows);
+            rows.push(with_window(row, start, end));
+        }
+        rows
+    }
+
     /// The rows of both windows in one sheet, one window behind the other or
     /// row by row.
     pub fn both(&self, dice: &mut Dice) -> Vec<Row> {
@@ -125,7 +137,7 @@ fn message_at(dice: &mut Dice, world: &World, moment: u64, others: &[u64]) -> Di
 
 /// Numbers the packages of a recording, so that they can be told apart in a
 /// copy.
-fn number_packages(dice: &mut Dice, messages: &mut [DirtyMessage]) {
+pub fn number_packages(dice: &mut Dice, messages: &mut [DirtyMessage]) {
     let packages = messages.iter_mut().flat_map(|message| &mut message.packages);
     for (number, package) in packages.enumerate() {
         package.data = (number as u32).to_be_bytes().to_vec();

@@ -30,6 +30,15 @@ impl Row {
         package_time(self.end_seconds, self.end_nanoseconds, 0)
     }
 
+    /// Are first and last, start and end in order, and the nanoseconds not too many?
+    pub fn is_good(&self) -> bool {
+        self.message_first <= self.message_last
+            && self.package_first <= self.package_last
+            && self.start_nanoseconds <= MOST_NANOSECONDS
+            && self.end_nanoseconds <= MOST_NANOSECONDS
+            && self.start() < self.end()
+    }
+
     /// The id ranges have both their ends; the window has its start alone.
     pub fn grants(&self, message_id: u32, package_id: u32, time: u64, simulated: bool) -> bool {
         (self.message_first..=self.message_last).contains(&message_id)
@@ -74,11 +83,5 @@ fn read_row(bytes: &[u8]) -> Option<Row> {
         acquired_only: times & 1 != 0,
     };
     let spare = times & 0b1110;
-    let good = row.message_first <= row.message_last
-        && row.package_first <= row.package_last
-        && row.start_nanoseconds <= MOST_NANOSECONDS
-        && row.end_nanoseconds <= MOST_NANOSECONDS
-        && row.start() < row.end()
-        && spare == 0;
-    good.then_some(row)
+    (row.is_good() && spare == 0).then_some(row)
 }

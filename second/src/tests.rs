@@ -2,6 +2,7 @@
 //! requests that change the paper's rules have a module of their own.
 
 mod changed_rules;
+mod two_sheets;
 
 use crate::burst::{open_burst, randomize, MARKER_BYTES, SEQUENCE};
 use crate::copy::{self, Copied};

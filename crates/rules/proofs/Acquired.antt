@@ -1,17 +1,17 @@
 -- Rows for acquired data only: they release of messages that are acquired what they release without that bit, and of simulated ones nothing.
 use Prim.Native.Nat.{ℕ, _*_, _/_, _%_, _^_}
 use mathlib.Core.Path.{_≡_, refl, ap, ap₂, sym, _∙_}
-use mathlib.Core.Bool.{Bool, true, false, _||_}
+use mathlib.Core.Bool.{Bool, true, false, not, _||_}
 use mathlib.Core.List.{List, [], _∷_, map}
 use native.Mathlib.Nat.{div-div-eq-div-mul}
 use native.Mathlib.Omega.{arith}
 use borrow.Author.Tests.{eqb-true, eq-eqb}
-use Rattle.rules.specs.Items.{All, all-nil, all-cons}
+use Rattle.rules.specs.Items.{All, all-nil, all-cons, passing}
 use Rattle.rules.specs.Packages.{Package, packageTime}
 use Rattle.rules.specs.Message.{isSimulated, Message}
 use Rattle.rules.specs.Sheet.{Row, rowOf, grants}
 use Rattle.rules.specs.Copy.{granted, grantedPackages, withEntryOf, released}
-use Rattle.rules.specs.Claims.{InRanges, Some, here, there, acquired}
+use Rattle.rules.specs.Claims.{InRanges, Some, here, there}
 use Rattle.rules.proofs.Granted.{bit-clear, only-by, granted-exactly}
 use Rattle.rules.proofs.Growing.{granted-alike}
 
@@ -107,15 +107,18 @@ module _ (m : Message) (e : isSimulated (m .flags) ≡ true) where
   none-granted a [] = refl
   none-granted a (k ∷ ks) = rw (ungranted a k, grantedPackages) (none-granted a ks)
 
-dropped-by : (rows : List Row) (ms : List Message) → All (λ (r : Row). r .acquiredOnly ≡ true) rows → released rows ms ≡ released (map forAll rows) (acquired ms)
+abbrev acquired : Message → Bool
+acquired m = not (isSimulated (m .flags))
+
+dropped-by : (rows : List Row) (ms : List Message) → All (λ (r : Row). r .acquiredOnly ≡ true) rows → released rows ms ≡ released (map forAll rows) (passing acquired ms)
 unfolding released withEntryOf
 dropped-by rows [] o = refl
 dropped-by rows (m ∷ ms) o = go (isSimulated (m .flags)) refl (dropped-by rows ms o)
   where
-    go : (b : Bool) → isSimulated (m .flags) ≡ b → released rows ms ≡ released (map forAll rows) (acquired ms)
-        → released rows (m ∷ ms) ≡ released (map forAll rows) (elim b [ true ↦ acquired ms | false ↦ m ∷ acquired ms ])
+    go : (b : Bool) → isSimulated (m .flags) ≡ b → released rows ms ≡ released (map forAll rows) (passing acquired ms)
+        → released rows (m ∷ ms) ≡ released (map forAll rows) (elim (not b) [ true ↦ m ∷ passing acquired ms | false ↦ passing acquired ms ])
     go true e h = rw (none-granted m e o (m .packages)) h
     go false e h = rw (as-for-all m (bit-clear (m .flags) e) rows, h)
 
-pub dropped : (ns : List ℕ) (ms : List Message) → All (λ (n : ℕ). n % 2 ≡ 1) ns → released (map rowOf ns) ms ≡ released (map (λ n. rowOf (n / 2 * 2)) ns) (acquired ms)
+pub dropped : (ns : List ℕ) (ms : List Message) → All (λ (n : ℕ). n % 2 ≡ 1) ns → released (map rowOf ns) ms ≡ released (map (λ n. rowOf (n / 2 * 2)) ns) (passing acquired ms)
 dropped ns ms o = rw (all-without ns) (dropped-by (map rowOf ns) ms (all-only o))

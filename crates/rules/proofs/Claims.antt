@@ -5,7 +5,7 @@ use mathlib.Core.List.{List, [], _∷_, map}
 use native.Mathlib.Omega.{arith}
 use borrow.Author.Tests.{le-ltb}
 use lib.ListN.{length, length-append}
-use Rattle.rules.specs.Outcome.{Outcome, good, _>>=_, _>>_}
+use Rattle.rules.specs.Outcome.{Outcome, good, _>>=_, _>>_, ROOM}
 use Rattle.rules.specs.Bytes.{part, join}
 use Rattle.rules.specs.Message.{headerBytes, notLarge, Head, head, optionRunLength, Message, message, checksOneToNine, checksOneToTen, everyCheck}
 use Rattle.rules.specs.Reading.{header, optionRun, packagesOf, checkedRecording}
@@ -13,9 +13,9 @@ use Rattle.rules.specs.Buffer.{fitted, stored}
 use Rattle.rules.specs.Writer.{written, writer}
 use Rattle.rules.specs.Clean.{cleanForm, cleaner}
 use Rattle.rules.specs.Sheet.{Row}
-use Rattle.rules.specs.Copy.{Entry, packagesIn, releasedOf, reported, measurement, roomFor, answered, copy}
+use Rattle.rules.specs.Copy.{Entry, packagesIn, Answer, releasedOf, reported, measurement, roomFor, answered, copy}
 use Rattle.rules.specs.Burst.{randomized, opening, randomizer, opener}
-use Rattle.rules.specs.Claims.{BuffersKept, PremisesMet, CountsChecked, OptionsExactly, CountExactly, WrittenRead, AcceptedValid, ReadValid, ReadWritten, PartsWritten, Writes, WholeRun, WriterWrites, CleanerWrites, SpotOfRecord, SpotExactly, CleanAlone, CleanTwice, CleanExactly, PackageExactly, PackagePlace, CutExactly, WalkShowsAll, WalkStays, GrantedExactly, AcquiredOnly, SeamWhole, SeamOnce, NoEmptyWindow, Recurrence, BitPeriod, TableEntry, RandomizedTwice, RandomizedByte, BurstExactly, SameCopies, SameMeasurements, DifferentCopies, CountsReleased, MeasuredReleased, MeasuredFirst, SequenceCounted, ReleasedExactly, CopyRead, CopyNotLonger, CopyPlain, OneOutcome, Claims, partsOf}
+use Rattle.rules.specs.Claims.{BuffersKept, PremisesMet, CountsChecked, OptionsExactly, CountExactly, WrittenRead, AcceptedValid, ReadValid, ReadWritten, PartsWritten, Writes, WholeRun, WriterWrites, CleanerWrites, SpotOfRecord, SpotExactly, CleanAlone, CleanTwice, CleanExactly, PackageExactly, WalkExactly, GrantedExactly, WindowsExactly, AcquiredOnly, RandomizerExactly, BurstExactly, SameCopies, DifferentCopies, CopyExactly, MeasuredFirst, SequenceCounted, ReleasedExactly, CopyPlain, TwoSheets, RowAdded, OneOutcome, Claims, partsOf}
 use Rattle.rules.proofs.Outcomes.{pass, passed, step, stepped, came-after, good-inj}
 use Rattle.rules.proofs.Kept.{careful-stored, careful-answered, kept-randomized, kept-opened, writes, roomless}
 use Rattle.rules.proofs.Cut as Cut
@@ -36,8 +36,9 @@ use Rattle.rules.proofs.Table.{table}
 use Rattle.rules.specs.Edges.{Edges}
 use Rattle.rules.proofs.Edges.{edges}
 use Rattle.rules.proofs.Growing.{copyMessages-snoc, released-append, granted-append, granted-one, granted-none, released-entry, released-none}
-use Rattle.rules.proofs.Interference.{copy-is, delivered-is, same-list, copy-read, copy-short, copy-plain}
+use Rattle.rules.proofs.Interference.{copy-is, delivered-is, same-copy, same-measurement, same-list, copy-short, copy-passes, copy-plain}
 use Rattle.rules.proofs.Nevers.{never-released}
+use Rattle.rules.proofs.Turns as Turns
 use Rattle.rules.proofs.Measured.{measured-roomless, measured-enough, measured-short, measured-refused, measured-alike}
 use Rattle.rules.proofs.Spots.{of-record, spot-read, spot-refused}
 use native.Mathlib.Nat.{zero-add, add-zero}
@@ -126,7 +127,11 @@ pub clean-exactly : CleanExactly
 clean-exactly = RoundTrip.clean-exactly
 
 pub package-exactly : PackageExactly
-package-exactly = exactly
+package-exactly = record {
+  refused = exactly;
+  filled = λ p s pieces. (λ e. Cut.sound 0 p s e, λ f. Cut.complete f p);
+  place = λ p s n q e. let r = rw add-zero at (Cut.refused 0 p s e) in (r .d, r .place, r .number, r .unfit, (r .pieces, r .fills));
+}
 
 -- the option run of a header that passes is a run by itself
 run-by-itself : (s : List ℕ) (h : Head) (n : ℕ) → header s ≡ good (h, n) → WholeRun (optionRun s)
@@ -149,52 +154,36 @@ options-exactly = record {
 pub count-exactly : CountExactly
 count-exactly = record { right = count-right; read = count-read; written = count-written }
 
-pub package-place : PackagePlace
-package-place p s n q e =
-    let r = rw add-zero at (Cut.refused 0 p s e) in
-    (r .d, r .place, r .number, r .unfit, (r .pieces, r .fills))
-
-pub cut-exactly : CutExactly
-cut-exactly p s pieces = (λ e. Cut.sound 0 p s e, λ f. Cut.complete f p)
-
-pub walk-shows-all : WalkShowsAll
-walk-shows-all = walks-cut
-
-pub walk-stays : WalkStays
-walk-stays = stays
+pub walk-exactly : WalkExactly
+walk-exactly = record { shows = walks-cut; stays = stays }
 
 pub granted-by-ranges : GrantedExactly
 granted-by-ranges rows m k = Granted.granted-exactly m k rows
 
-pub no-empty-window : NoEmptyWindow
-no-empty-window = Granted.no-empty-window
-
-pub seam-once : SeamOnce
-seam-once rows rows′ seam ends starts m k = Granted.seam-once m k rows rows′ seam ends starts
-
-pub seam-whole : SeamWhole
-seam-whole r a b c l h m k = Granted.seam-whole m k r a b c l h
+pub windows-exactly : WindowsExactly
+windows-exactly = record {
+  filled = Granted.no-empty-window;
+  once = λ rows rows′ seam ends starts m k. Granted.seam-once m k rows rows′ seam ends starts;
+  whole = λ r a b c l h m k. Granted.seam-whole m k r a b c l h;
+}
 
 pub acquired-only : (ns : List ℕ) (ms : List Message) → AcquiredOnly ns ms
 acquired-only ns ms = record { kept = Acquired.kept ns ms; dropped = Acquired.dropped ns ms }
 
-pub recurrence : Recurrence
-recurrence = Sequence.recurrence
-
-pub bit-period : BitPeriod
-bit-period = Sequence.bit-period
-
-pub table-entry : TableEntry
-table-entry = Sequence.byte-entry
-
-pub randomized-twice : RandomizedTwice
+randomized-twice : (buffer : List ℕ) → length buffer ≤ 65536 → (randomizer buffer .0 ≡ record { number = 0; place = 0 }) × (randomizer (randomizer buffer .1) .1 ≡ buffer)
 randomized-twice buffer l =
     let e = randomizer-is buffer l in
     let again : randomizer (randomized 0 buffer) .1 ≡ buffer = ap (λ (x : _). x .1) (randomizer-is (randomized 0 buffer) (omega (arith, Sequence.randomized-length 0 buffer))) ∙ Sequence.randomized-twice 0 buffer in
     (ap (λ (x : _). x .0) e, rw e again)
 
-pub randomized-byte : RandomizedByte
-randomized-byte buffer k l h = rw (randomizer-is buffer l) (rw zero-add at (Sequence.randomized-at 0 buffer k h))
+pub randomizer-exactly : RandomizerExactly
+randomizer-exactly = record {
+  recurrence = Sequence.recurrence;
+  period = Sequence.bit-period;
+  entry = Sequence.byte-entry;
+  twice = randomized-twice;
+  byte = λ buffer k l h. rw (randomizer-is buffer l) (rw zero-add at (Sequence.randomized-at 0 buffer k h));
+}
 
 pub burst-is : BurstExactly
 burst-is = burst-exactly
@@ -207,13 +196,8 @@ edges-hold = edges
 
 -- ---- demand 3
 
-pub same-copies : SameCopies
-unfolding copy
-same-copies recording recording′ sheet sheet′ buffer e = ap (λ (o : _). answered buffer (o >>= roomFor buffer)) e
-
-pub same-measurements : SameMeasurements
-unfolding measurement
-same-measurements recording recording′ sheet sheet′ e = ap reported e
+pub same-copies : (recording recording′ sheet sheet′ : List ℕ) (same : releasedOf recording sheet ≡ releasedOf recording′ sheet′) → SameCopies recording recording′ sheet sheet′ same
+same-copies recording recording′ sheet sheet′ same = record { written = same-copy recording recording′ sheet sheet′ same; measured = same-measurement recording recording′ sheet sheet′ same }
 
 pub different-copies : DifferentCopies
 different-copies recording recording′ sheet sheet′ buffer buffer′ b b′ es es′ r r′ l l′ differ e =
@@ -230,19 +214,23 @@ unfolding packagesOf
 messages-joined [] = refl
 messages-joined (m ∷ ms) = omega (arith, messages-joined ms, length-append (m .packages) (join (map (λ (m : Message). m .packages) ms)))
 
-pub counts-released : CountsReleased
-counts-released recording sheet buffer es r l =
-    (rw (← entries-joined es) (ap (λ (a : _). a .0) (copy-is recording sheet es r buffer l)), delivered-is recording sheet es r buffer l)
-
-pub measured-released : MeasuredReleased
+pub copy-exactly : (recordingBytes sheetBytes : List ℕ) (es : List Entry) (list : releasedOf recordingBytes sheetBytes ≡ good es) → CopyExactly recordingBytes sheetBytes es list
 unfolding measurement reported
-measured-released recording sheet es r = rw (← entries-joined es) (ap reported r)
+copy-exactly recordingBytes sheetBytes es list = record {
+  measured = rw (← entries-joined es) (ap reported list);
+  written = λ buffer l. (
+    ap (λ (a : Answer × List ℕ). a .0) (copy-is recordingBytes sheetBytes es list buffer l) ∙ sym (ap reported list),
+    delivered-is recordingBytes sheetBytes es list buffer l,
+  );
+  read = λ b. copy-passes recordingBytes sheetBytes es b list;
+  short = λ b. copy-short recordingBytes sheetBytes es b list;
+}
 
 pub measured-first : (recording sheet : List ℕ) → MeasuredFirst recording sheet
 unfolding measurement copy answered
 measured-first recording sheet =
     let o = releasedOf recording sheet in
-    record { roomless = measured-roomless o (never-released recording sheet); enough = measured-enough o; short = measured-short o; refused = measured-refused o; alike = measured-alike o }
+    record { roomless = measured-roomless o (never-released ROOM (λ n l o. o) recording sheet); enough = measured-enough o; short = measured-short o; refused = measured-refused o; alike = measured-alike o }
 
 pub counts-checked : CountsChecked
 unfolding checkedRecording
@@ -261,14 +249,16 @@ released-exactly rows = record {
   silent = released-none rows;
 }
 
-pub copy-is-read : CopyRead
-copy-is-read = copy-read
-
-pub copy-not-longer : CopyNotLonger
-copy-not-longer = copy-short
-
 pub copy-is-plain : CopyPlain
 copy-is-plain = copy-plain
+
+-- ---- two sheets in turn
+
+pub two-sheets : TwoSheets
+two-sheets r s t c d b h g rows rows′ ms v w p = Turns.in-turn r b ms p s t c d h g rows rows′ v w
+
+pub row-added : RowAdded
+row-added = Turns.row-added
 
 -- ---- what a promise allows
 
@@ -281,13 +271,14 @@ pub all-claims : Claims
 all-claims = record {
   buffers = buffers-kept;
   premises = (premises-met, accepted-is-valid, read-valid);
-  reading = (spot-of-record, spot-exactly, counts-checked, options-exactly, count-exactly, package-exactly, cut-exactly, package-place, walk-shows-all, walk-stays);
+  reading = (spot-of-record, spot-exactly, counts-checked, options-exactly, count-exactly, package-exactly, walk-exactly);
   writing = (written-read, read-written, parts-give-clean, writer-writes);
   cleaning = (cleaner-writes, clean-alone, clean-twice, clean-exactly);
-  measuring = (measured-released, measured-first);
-  copying = (granted-by-ranges, no-empty-window, seam-once, seam-whole, acquired-only, released-exactly, sequence-counted, counts-released, copy-is-read, copy-not-longer, copy-is-plain);
-  bursts = (recurrence, bit-period, table-entry, randomized-twice, randomized-byte, burst-is);
-  silence = (same-copies, same-measurements, different-copies);
+  measuring = measured-first;
+  granting = (granted-by-ranges, windows-exactly, acquired-only, released-exactly);
+  copying = (copy-exactly, sequence-counted, copy-is-plain, two-sheets, row-added);
+  bursts = (randomizer-exactly, burst-is);
+  silence = (same-copies, different-copies);
   outcomes = one-outcome;
   numbers = (table-holds, edges-hold);
 }

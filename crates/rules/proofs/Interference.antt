@@ -3,10 +3,10 @@ use Prim.Native.Nat.{ℕ, _+_, _/_, _%_, _≤_, _<_}
 use mathlib.Core.Path.{_≡_, refl, ap, sym, subst, _∙_}
 use mathlib.Core.List.{List, [], _∷_, map}
 use native.Mathlib.Omega.{arith}
-use borrow.Author.Tests.{ltb-false}
+use borrow.Author.Tests.{le-ltb, ltb-false}
 use lib.ListN.{length, length-append}
 use lib.Seq.{sets}
-use Rattle.rules.specs.Outcome.{good, ROOM}
+use Rattle.rules.specs.Outcome.{Outcome, good, _>>=_, ROOM}
 use Rattle.rules.specs.Bytes.{Bytes, join}
 use Rattle.rules.specs.Items.{items, All, all-nil, all-cons, count}
 use Rattle.rules.specs.Message.{Message, message, recording}
@@ -14,9 +14,9 @@ use Rattle.rules.specs.Packages.{Package}
 use Rattle.rules.specs.Sheet.{Row}
 use Rattle.rules.specs.Writer.{write}
 use Rattle.rules.specs.Valid.{Valid}
-use Rattle.rules.specs.Copy.{Entry, listedBits, grantedPackages, withEntryOf, released, copyMessage, copyMessages, copyBytes, packagesIn, releasedOf, reported, filled, answered, copy, delivered}
+use Rattle.rules.specs.Copy.{Entry, listedBits, grantedPackages, withEntryOf, released, copyMessage, copyMessages, copyBytes, packagesIn, releasedOf, reported, measurement, roomFor, filled, answered, copy, delivered}
 use Rattle.rules.specs.Claims.{Plain}
-use Rattle.rules.proofs.Outcomes.{step, passed, stepped, good-inj}
+use Rattle.rules.proofs.Outcomes.{pass, step, passed, stepped, good-inj}
 use Rattle.rules.proofs.Measured.{room-for, no-room-for}
 use Rattle.rules.proofs.Kept.{take-sets}
 use Rattle.rules.proofs.RoundTrip.{all-written-read}
@@ -32,6 +32,16 @@ valid-released rs recordingBytes ms b e =
     let w = all-valid 0 0 recordingBytes b fits read in
     let v = entries rs (w .valid) in
     valid-copyMessages [] (v .valid) (omega (arith, w .few, v .few))
+
+-- equal released lists, or equal refusals in their place
+module _ (recordingBytes recordingBytes′ sheetBytes sheetBytes′ : List ℕ) (same : releasedOf recordingBytes sheetBytes ≡ releasedOf recordingBytes′ sheetBytes′) where
+  pub same-copy : (buffer : List ℕ) → copy recordingBytes sheetBytes buffer ≡ copy recordingBytes′ sheetBytes′ buffer
+  unfolding copy
+  same-copy buffer = ap (λ (o : Outcome (List Entry)). answered buffer (o >>= roomFor buffer)) same
+
+  pub same-measurement : measurement recordingBytes sheetBytes ≡ measurement recordingBytes′ sheetBytes′
+  unfolding measurement
+  same-measurement = ap reported same
 
 module _ (recordingBytes sheetBytes : List ℕ) (es : List Entry) (list : releasedOf recordingBytes sheetBytes ≡ good es) where
   -- with room, the answer is the released list's, and its copy is stored
@@ -85,12 +95,15 @@ same-list recordingBytes recordingBytes′ sheetBytes sheetBytes′ buffer buffe
     let a′ = all-written-read (valid-list recordingBytes′ sheetBytes′ es′ r′ b′) 0 in
     copyMessages-injective es es′ (good-inj (sym a ∙ ap (items message 0 0) q ∙ a′))
 
--- the copy is read as the released list's messages
-pub copy-read : (recordingBytes sheetBytes buffer : List ℕ) (es : List Entry) → Bytes recordingBytes → releasedOf recordingBytes sheetBytes ≡ good es → length (copyBytes es) ≤ length buffer
-    → items message 0 0 (delivered (copy recordingBytes sheetBytes buffer)) ≡ good (copyMessages [] es)
-unfolding copyBytes
-copy-read recordingBytes sheetBytes buffer es b r l =
-    ap (items message 0 0) (delivered-is recordingBytes sheetBytes es r buffer l) ∙ all-written-read (valid-list recordingBytes sheetBytes es r b) 0
+-- the copy is a recording that passes, with the released list's messages
+pub copy-passes : (recordingBytes sheetBytes : List ℕ) (es : List Entry) → Bytes recordingBytes → releasedOf recordingBytes sheetBytes ≡ good es → recording (copyBytes es) ≡ good (copyMessages [] es)
+unfolding recording releasedOf copyBytes
+copy-passes recordingBytes sheetBytes es b r =
+    let (rs, s, e) = stepped _ _ r in
+    let (ms, passes, e) = stepped _ _ e in
+    let (large, read) = passed _ _ _ _ passes in
+    let fits : length recordingBytes ≤ 65536 = ltb-false _ _ large in
+    pass _ _ _ _ (le-ltb 65536 (length (copyBytes es)) (omega (arith, copy-short recordingBytes sheetBytes es b r))) (all-written-read (valid-list recordingBytes sheetBytes es r b) 0)
 
 -- each of those is plain: bits 3, 2 and 1 are all that is listed of the flags
 plain-copyMessage : (n : ℕ) (e : Entry) → e .flags % 2 ≡ 0 → e .flags < 16 → Plain (copyMessage n e)

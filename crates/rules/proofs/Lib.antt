@@ -20,6 +20,8 @@ pub mod Released
 pub mod Nevers
 pub mod Measured
 pub mod Interference
+pub mod Joined
+pub mod Turns
 pub mod Kept
 pub mod Apart
 pub mod Spots

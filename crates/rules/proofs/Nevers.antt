@@ -1,5 +1,5 @@
--- Which numbers a chain of checks never gives: any but its own. What reads a sheet or a recording never gives ROOM, and checks 1 to 10 never give COUNT.
-use Prim.Native.Nat.{ℕ, zero, suc, _+_, _-_, _<_}
+-- Which numbers a chain of checks never gives: any but its own. What reads a sheet or a recording never gives ROOM, nor a refusal the number of success, and checks 1 to 10 never give COUNT.
+use Prim.Native.Nat.{ℕ, zero, suc, _+_, _-_, _≤_}
 use mathlib.Core.Path.{_≡_, sym}
 use mathlib.Core.Bool.{Bool, true, false, not}
 use mathlib.Core.List.{List, [], _∷_}
@@ -51,13 +51,13 @@ module _ {x : ℕ} where
   never-items read v (suc k) p (y ∷ s) = never-items read v k (suc p) s
   never-items read v zero p (y ∷ s) = never-step (v p (y ∷ s)) (λ r. never-front _ _ (never-items read v (r .1 - 1) (suc p) s))
 
--- the numbers of checks 1 to 10 are at most 10
-module _ (x : ℕ) (high : 10 < x) where
+-- the numbers of checks 1 to 10 are 1 to 10
+module _ (x : ℕ) (other : (n : ℕ) → 1 ≤ n → n ≤ 10 → n ≡ x → ⊥) where
   -- an option ends the run, is refused, or is passed over
   at-option : (ends : Bool) (n : ℕ) (wrong second : Bool) (p : ℕ) {o : Outcome ℕ} → Never x o
       → Never x {A = ℕ} (elim ends [ true ↦ good n | false ↦ refuse wrong OPTION p >> (refuse second OPTION p >> o) ])
   at-option true n wrong second p v = never-good
-  at-option false n wrong second p v = never-check wrong OPTION p (λ e. omega arith) (never-check second OPTION p (λ e. omega arith) v)
+  at-option false n wrong second p v = never-check wrong OPTION p (other _ (omega arith) (omega arith)) (never-check second OPTION p (other _ (omega arith) (omega arith)) v)
 
   pub never-run : (seen : List ℕ) (k p n : ℕ) (o : List ℕ) → Never x (optionRunFrom seen k p n o)
   unfolding optionRunFrom
@@ -67,7 +67,7 @@ module _ (x : ℕ) (high : 10 < x) where
 
   never-piece : (p : ℕ) (s : List ℕ) → Never x (piece p s)
   unfolding piece
-  never-piece p s = never-check _ _ _ (λ e. omega arith) never-good
+  never-piece p s = never-check _ _ _ (other _ (omega arith) (omega arith)) never-good
 
   pub never-cut : (p : ℕ) (s : List ℕ) → Never x (cut p s)
   never-cut p s = never-items piece never-piece _ _ _
@@ -75,29 +75,34 @@ module _ (x : ℕ) (high : 10 < x) where
   never-six : (p : ℕ) (s : List ℕ) (h : Head) → Never x (checksOneToSix p s h)
   unfolding checksOneToSix
   never-six p s h =
-      never-check _ _ _ (λ e. omega arith)
-      (never-check _ _ _ (λ e. omega arith)
-      (never-check _ _ _ (λ e. omega arith)
-      (never-check _ _ _ (λ e. omega arith)
-      (never-check _ _ _ (λ e. omega arith) (never-refuse _ _ _ (λ e. omega arith))))))
+      never-check _ _ _ (other _ (omega arith) (omega arith))
+      (never-check _ _ _ (other _ (omega arith) (omega arith))
+      (never-check _ _ _ (other _ (omega arith) (omega arith))
+      (never-check _ _ _ (other _ (omega arith) (omega arith))
+      (never-check _ _ _ (other _ (omega arith) (omega arith)) (never-refuse _ _ _ (other _ (omega arith) (omega arith)))))))
 
   pub never-ten : (p : ℕ) (s : List ℕ) (h : Head) → Never x (checksOneToTen p s h)
   unfolding checksOneToTen checksOneToNine checksEightAndNine optionRunLength
   never-ten p s h =
       never-step
       (never-step (never-after (never-six p s h) (never-run _ _ _ _ _))
-      (λ n. never-after (never-check _ _ _ (λ e. omega arith) (never-refuse _ _ _ (λ e. omega arith))) never-good))
+      (λ n. never-after (never-check _ _ _ (other _ (omega arith) (omega arith)) (never-refuse _ _ _ (other _ (omega arith) (omega arith)))) never-good))
       (λ n. never-step (never-cut _ _) (λ cs. never-good))
 
-never-message : (p : ℕ) (s : List ℕ) → Never ROOM (message p s)
-unfolding message everyCheck
-never-message p s = never-step (never-step (never-ten ROOM (omega arith) p s (head s)) (λ r. never-check _ _ _ (λ e. omega arith) never-good)) (λ r. never-good)
+-- nor does the reading of a sheet or a recording give ROOM, or a number below 1
+module _ (x : ℕ) (other : (n : ℕ) → 1 ≤ n → (n ≡ ROOM → ⊥) → n ≡ x → ⊥) where
+  low : (n : ℕ) → 1 ≤ n → n ≤ 10 → n ≡ x → ⊥
+  low n l h = other n l (λ e. omega arith)
 
-never-row : (p : ℕ) (s : List ℕ) → Never ROOM (row p s)
-unfolding row
-never-row p s = never-check _ _ _ (λ e. omega arith) never-good
+  never-message : (p : ℕ) (s : List ℕ) → Never x (message p s)
+  unfolding message everyCheck
+  never-message p s = never-step (never-step (never-ten x low p s (head s)) (λ r. never-check _ _ _ (other _ (omega arith) (λ e. omega arith)) never-good)) (λ r. never-good)
 
-pub never-released : (recordingBytes sheetBytes : List ℕ) → Never ROOM (releasedOf recordingBytes sheetBytes)
-unfolding releasedOf sheet recording
-never-released r s = never-step (never-check _ _ _ (λ e. omega arith) (never-items row never-row _ _ _)) (λ rs.
-    never-step (never-check _ _ _ (λ e. omega arith) (never-items message never-message _ _ _)) (λ ms. never-good))
+  never-row : (p : ℕ) (s : List ℕ) → Never x (row p s)
+  unfolding row
+  never-row p s = never-check _ _ _ (other _ (omega arith) (λ e. omega arith)) never-good
+
+  pub never-released : (recordingBytes sheetBytes : List ℕ) → Never x (releasedOf recordingBytes sheetBytes)
+  unfolding releasedOf sheet recording
+  never-released r s = never-step (never-check _ _ _ (other _ (omega arith) (λ e. omega arith)) (never-items row never-row _ _ _)) (λ rs.
+      never-step (never-check _ _ _ (other _ (omega arith) (λ e. omega arith)) (never-items message never-message _ _ _)) (λ ms. never-good))

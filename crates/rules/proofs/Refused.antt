@@ -64,7 +64,7 @@ count-only : (p : ℕ) (s : List ℕ) (q : ℕ) → message p s ≡ bad COUNT q 
 unfolding message everyCheck
 count-only p s q e =
     ⊎-elim (λ e.
-    ⊎-elim (λ m. absurd (never-ten COUNT (omega arith) p s (head s) .given q m)) (λ w.
+    ⊎-elim (λ m. absurd (never-ten COUNT (λ n l h e. omega arith) p s (head s) .given q m)) (λ w.
     ⊎-elim (λ m. (sym (m .2), (w .0, w .1, told-other (countSaid (part 24 (24 + w .0 .0) s)) (length (w .0 .1)) (m .0)))) (λ g. absurd (good≢bad (sym g))) (refused-pass _ _ _ _ (w .2)))
     (refused-step _ _ e))
     (λ v. absurd (good≢bad (sym (v .2)))) (refused-step _ _ e)

@@ -126,9 +126,9 @@ miscounts d q e =
     ⊎-elim (λ m. absurd (omega (arith, m .1))) (λ a.
     ⊎-elim (λ m. absurd (omega (arith, m .1))) (λ b.
     ⊎-elim (λ m. absurd (omega (arith, m .1))) (λ c.
-    ⊎-elim (λ m. absurd (never-run COUNT (omega arith) [] 0 0 0 (d .options) .given q m)) (λ r.
+    ⊎-elim (λ m. absurd (never-run COUNT (λ n l h e. omega arith) [] 0 0 0 (d .options) .given q m)) (λ r.
     ⊎-elim (λ m. absurd (omega (arith, m .1))) (λ g.
-    ⊎-elim (λ m. absurd (never-cut COUNT (omega arith) 0 (d .packages) .given q m)) (λ k.
+    ⊎-elim (λ m. absurd (never-cut COUNT (λ n l h e. omega arith) 0 (d .packages) .given q m)) (λ k.
     ⊎-elim (λ m. (
       sym (m .2),
       ltb-false _ _ (a .0),

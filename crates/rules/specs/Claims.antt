@@ -2,13 +2,13 @@
 use Prim.Native.Nat.{ℕ, _+_, _*_, _/_, _%_, _^_, _≤_, _<_}
 use mathlib.Core.Path.{_≡_}
 use mathlib.Core.Logic.{_↔_, _⊎_}
-use mathlib.Core.Bool.{true, false}
+use mathlib.Core.Bool.{true, false, not, _&&_, _||_}
 use mathlib.Core.List.{List, [], _∷_, _++_, map}
 use mathlib.Core.Option.{some}
 use lib.ListN.{length, getD, take, drop}
 use Rattle.rules.specs.Outcome.{good, bad, OPTION, PACKAGE, ROOM, COUNT}
 use Rattle.rules.specs.Bytes.{Bytes, word, pad, part, join}
-use Rattle.rules.specs.Items.{items, All, count, Fills}
+use Rattle.rules.specs.Items.{All, Fills, count, passing}
 use Rattle.rules.specs.Options.{mostOptionBytes, optionFits, isSecond, optionRunFrom, countSaid, kindOf, WholeOption}
 use Rattle.rules.specs.Packages.{Package, packageFits, cut, packageOf, packageTime, Piece}
 use Rattle.rules.specs.Message.{headerBytes, mostNanos, mostBytes, Head, head, payloadStart, payload, isSimulated, recordBits, checksOneToNine, checksOneToTen, Message, message, recording}
@@ -18,8 +18,9 @@ use Rattle.rules.specs.Walk.{PackageSpot, packageAt, dataAt, nextAt, Wal
 use Rattle.rules.specs.Writer.{write, Draft, accepted, written, writer}
 use Rattle.rules.specs.Clean.{cleanForm, cleaner}
 use Rattle.rules.specs.Valid.{Valid, DraftFits}
-use Rattle.rules.specs.Sheet.{Row, rowOf, startOf, endOf, sheet}
+use Rattle.rules.specs.Sheet.{rowBytes, mostRows, Row, rowOf, startOf, endOf, sheet}
 use Rattle.rules.specs.Copy.{granted, Entry, grantedPackages, released, copyMessage, copyMessages, copyBytes, releasedOf, measurement, copy, delivered}
+use Rattle.rules.specs.Turns.{Copied, releasedBy, Holds}
 use Rattle.rules.specs.Table.{Table}
 use Rattle.rules.specs.Edges.{Edges}
 use Rattle.rules.specs.Burst.{_xor_, bit, sequenceByte, sequenceBytes, randomized, randomizer, marker, blockSize, mostBlocks, opening, opener}
@@ -115,10 +116,15 @@ pub record SpotExactly : Type 0 where
 abbrev pub CountsChecked : Type 0
 CountsChecked = (s : List ℕ) (ms : List Message) → recording s ≡ good ms → checkedRecording s ≡ good (length ms, length (join (map (λ (m : Message). m .packages) ms)))
 
--- Where checks 1 to 9 pass, a payload is refused as PACKAGE exactly if no cut into packages fills it.
-abbrev pub PackageExactly : Type 0
-PackageExactly = (p : ℕ) (s : List ℕ) (n : ℕ) → checksOneToNine p s (head s) ≡ good n
-    → ((q : ℕ) × (message p s ≡ bad PACKAGE q)) ↔ ((pieces : List (List ℕ)) → Fills Piece pieces (payload s (head s)) → ⊥)
+-- Where checks 1 to 9 pass, a payload is refused as PACKAGE exactly if no cut into packages fills it. The packages fill it in one way only: a run is cut into
+-- these pieces exactly if they fill it. The place of that refusal is the first package that its header or the bytes left do not allow: whole packages fill what
+-- is before it.
+pub record PackageExactly : Type 0 where
+  pub refused : (p : ℕ) (s : List ℕ) (n : ℕ) → checksOneToNine p s (head s) ≡ good n
+      → ((q : ℕ) × (message p s ≡ bad PACKAGE q)) ↔ ((pieces : List (List ℕ)) → Fills Piece pieces (payload s (head s)) → ⊥)
+  pub filled : (p : ℕ) (s : List ℕ) (pieces : List (List ℕ)) → (cut p s ≡ good pieces) ↔ Fills Piece pieces s
+  pub place : (p : ℕ) (s : List ℕ) (n q : ℕ) → cut p s ≡ bad n q
+      → (d : ℕ) × (q ≡ p + d) × (n ≡ PACKAGE) × (packageFits (drop d s) ≡ false) × ((pieces : List (List ℕ)) × Fills Piece pieces (take d s))
 
 -- P holds of some element
 pub data Some {A : Type 0} (P : A → Type 0) : List A → Type 0 where
@@ -152,22 +158,11 @@ pub record CountExactly : Type 0 where
   pub written : (d : Draft) (q : ℕ) → (written d ≡ bad COUNT q) ↔ ((q ≡ 0) × (headerBytes + pad (length (d .options)) + length (d .packages) ≤ mostBytes) × (d .nanos ≤ mostNanos)
       × (length (d .options) ≤ mostOptionBytes) × WholeRun (d .options) × ((pieces : List (List ℕ)) × Fills Piece pieces (d .packages) × SaysOther (d .options) (length pieces)))
 
--- The packages fill the payload, in one way only: a run is cut into these pieces exactly if they fill it.
-abbrev pub CutExactly : Type 0
-CutExactly = (p : ℕ) (s : List ℕ) (pieces : List (List ℕ)) → (cut p s ≡ good pieces) ↔ Fills Piece pieces s
-
--- The place of that refusal is the first package that its header or the bytes left do not allow: whole packages fill what is before it.
-abbrev pub PackagePlace : Type 0
-PackagePlace = (p : ℕ) (s : List ℕ) (n q : ℕ) → cut p s ≡ bad n q
-    → (d : ℕ) × (q ≡ p + d) × (n ≡ PACKAGE) × (packageFits (drop d s) ≡ false) × ((pieces : List (List ℕ)) × Fills Piece pieces (take d s))
-
--- A walk shows every package of the cut, in order, and then the end.
-abbrev pub WalkShowsAll : Type 0
-WalkShowsAll = (s : List ℕ) → length s ≤ mostBytes → (pieces : List (List ℕ)) → cut 0 s ≡ good pieces → Walks s 0 (map packageOf pieces)
-
--- Where a step shows no package, at the end or at a refusal, the walk has not moved and the part shown is empty.
-abbrev pub WalkStays : Type 0
-WalkStays = (s : List ℕ) (i : ℕ) → ((k : PackageSpot) → packageAt s i ≡ good (some k) → ⊥) → (nextAt s i ≡ i) × (dataAt s i ≡ [])
+-- A walk shows every package of the cut, in order, and then the end. Where a step shows no package, at the end or at a refusal, the walk has not moved and the
+-- part shown is empty.
+pub record WalkExactly : Type 0 where
+  pub shows : (s : List ℕ) → length s ≤ mostBytes → (pieces : List (List ℕ)) → cut 0 s ≡ good pieces → Walks s 0 (map packageOf pieces)
+  pub stays : (s : List ℕ) (i : ℕ) → ((k : PackageSpot) → packageAt s i ≡ good (some k) → ⊥) → (nextAt s i ≡ i) × (dataAt s i ≡ [])
 
 -- A package is granted exactly if, in some row, message id and package id lie in the ranges, ends included, and package time in the window, start included and end not;
 -- and, where the row is for acquired data only, flag bit 3 of the message is 0. Each row is judged by itself.
@@ -183,51 +178,34 @@ pub record InRanges (m : Message) (k : Package) (r : Row) : Type 0 where
 abbrev pub GrantedExactly : Type 0
 GrantedExactly = (rows : List Row) (m : Message) (k : Package) → (granted rows m k ≡ true) ↔ Some (InRanges m k) rows
 
--- Every row of a sheet that passes starts before it ends.
-abbrev pub NoEmptyWindow : Type 0
-NoEmptyWindow = (s : List ℕ) (rows : List Row) → sheet s ≡ good rows → All (λ (r : Row). startOf r < endOf r) rows
-
--- Neighbouring orders never both grant a package: no row of the one ends behind the seam, and no row of the other starts before it.
-abbrev pub SeamOnce : Type 0
-SeamOnce = (rows rows′ : List Row) (seam : ℕ) → All (λ (r : Row). endOf r ≤ seam) rows → All (λ (r : Row). seam ≤ startOf r) rows′
-    → (m : Message) (k : Package) → granted rows m k ≡ true → granted rows′ m k ≡ true → ⊥
-
--- Two rows that agree in all but time, the first ending where the second starts, grant together exactly what one row over both windows grants. The window
--- of `over a b r` goes from a to b, in nanoseconds.
+-- r with a window from start to end, in nanoseconds
 abbrev pub over : ℕ → ℕ → Row → Row
 over start end r = record { firstMessage = r .firstMessage; lastMessage = r .lastMessage; firstPackage = r .firstPackage; lastPackage = r .lastPackage; startSeconds = start / 10 ^ 9; startNanos = start % 10 ^ 9; endSeconds = end / 10 ^ 9; endNanos = end % 10 ^ 9; spare = r .spare; acquiredOnly = r .acquiredOnly }
 
-abbrev pub SeamWhole : Type 0
-SeamWhole = (r : Row) (a b c : ℕ) → a ≤ b → b ≤ c → (m : Message) (k : Package) → granted (over a b r ∷ over b c r ∷ []) m k ≡ granted (over a c r ∷ []) m k
+-- Every row of a sheet that passes starts before it ends. Neighbouring orders never both grant a package, where no row of the one ends behind the seam and no row
+-- of the other starts before it. Two rows that agree in all but time, the first ending where the second starts, grant together exactly what one row over both
+-- windows grants.
+pub record WindowsExactly : Type 0 where
+  pub filled : (s : List ℕ) (rows : List Row) → sheet s ≡ good rows → All (λ (r : Row). startOf r < endOf r) rows
+  pub once : (rows rows′ : List Row) (seam : ℕ) → All (λ (r : Row). endOf r ≤ seam) rows → All (λ (r : Row). seam ≤ startOf r) rows′
+      → (m : Message) (k : Package) → granted rows m k ≡ true → granted rows′ m k ≡ true → ⊥
+  pub whole : (r : Row) (a b c : ℕ) → a ≤ b → b ≤ c → (m : Message) (k : Package) → granted (over a b r ∷ over b c r ∷ []) m k ≡ granted (over a c r ∷ []) m k
 
 -- What the lowest of a row's 256 bits does, row n without it being n / 2 * 2. While no message is simulated it changes nothing; set in every row, it leaves
 -- what the rows without it release of the recording without its simulated messages.
-abbrev pub acquired : List Message → List Message
-acquired [] = []
-acquired (m ∷ ms) = elim (isSimulated (m .flags)) [ true ↦ acquired ms | false ↦ m ∷ acquired ms ]
-
 pub record AcquiredOnly (ns : List ℕ) (ms : List Message) : Type 0 where
   pub kept : All (λ (m : Message). m .flags / 8 % 2 ≡ 0) ms → released (map rowOf ns) ms ≡ released (map (λ n. rowOf (n / 2 * 2)) ns) ms
-  pub dropped : All (λ (n : ℕ). n % 2 ≡ 1) ns → released (map rowOf ns) ms ≡ released (map (λ n. rowOf (n / 2 * 2)) ns) (acquired ms)
+  pub dropped : All (λ (n : ℕ). n % 2 ≡ 1) ns → released (map rowOf ns) ms ≡ released (map (λ n. rowOf (n / 2 * 2)) ns) (passing (λ (m : Message). not (isSimulated (m .flags))) ms)
 
--- Each bit of the randomizer's sequence behind the first eight is the exclusive-or of those 8, 5, 3 and 1 places before it.
-abbrev pub Recurrence : Type 0
-Recurrence = (n : ℕ) → bit (8 + n) ≡ bit n xor bit (3 + n) xor bit (5 + n) xor bit (7 + n)
-
--- The sequence repeats after 255 bits, and its bytes after 255 bytes: for every k, byte k is entry k modulo 255 of one period.
-abbrev pub BitPeriod : Type 0
-BitPeriod = (n : ℕ) → bit (n + 255) ≡ bit n
-
-abbrev pub TableEntry : Type 0
-TableEntry = (k : ℕ) → sequenceByte k ≡ getD (sequenceBytes 0 255) (k % 255) 0
-
--- Randomizing takes every buffer within the limit, and twice gives the buffer back.
-abbrev pub RandomizedTwice : Type 0
-RandomizedTwice = (buffer : List ℕ) → length buffer ≤ mostBytes → (randomizer buffer .0 ≡ record { number = 0; place = 0 }) × (randomizer (randomizer buffer .1) .1 ≡ buffer)
-
--- Randomizing exclusive-ors byte k with sequence byte k.
-abbrev pub RandomizedByte : Type 0
-RandomizedByte = (buffer : List ℕ) (k : ℕ) → length buffer ≤ mostBytes → k < length buffer → getD (randomizer buffer .1) k 0 ≡ getD buffer k 0 xor sequenceByte k
+-- Each bit of the randomizer's sequence behind the first eight is the exclusive-or of those 8, 5, 3 and 1 places before it. The sequence repeats after 255 bits,
+-- and its bytes after 255 bytes: for every k, byte k is entry k modulo 255 of one period. Randomizing takes every buffer within the limit, and twice gives the
+-- buffer back; it exclusive-ors byte k with sequence byte k.
+pub record RandomizerExactly : Type 0 where
+  pub recurrence : (n : ℕ) → bit (8 + n) ≡ bit n xor bit (3 + n) xor bit (5 + n) xor bit (7 + n)
+  pub period : (n : ℕ) → bit (n + 255) ≡ bit n
+  pub entry : (k : ℕ) → sequenceByte k ≡ getD (sequenceBytes 0 255) (k % 255) 0
+  pub twice : (buffer : List ℕ) → length buffer ≤ mostBytes → (randomizer buffer .0 ≡ record { number = 0; place = 0 }) × (randomizer (randomizer buffer .1) .1 ≡ buffer)
+  pub byte : (buffer : List ℕ) (k : ℕ) → length buffer ≤ mostBytes → k < length buffer → getD (randomizer buffer .1) k 0 ≡ getD buffer k 0 xor sequenceByte k
 
 -- A burst is opened exactly if it is the marker and 1 to 80 codeblocks of 768 bytes. The marker stays, and the sequence starts once behind it and runs on to the end.
 abbrev pub BurstExactly : Type 0
@@ -236,13 +214,11 @@ BurstExactly = (s : List ℕ) → Bytes s → (blocks : ℕ) (after : List ℕ) 
 
 -- ---- Demand 3: the copy talks about nothing but what was released.
 
--- Equal released lists (or equal refusals in their place) give equal answers, counts, refusals and buffers, whatever else differs in recordings and sheets.
-abbrev pub SameCopies : Type 0
-SameCopies = (recording recording′ sheet sheet′ buffer : List ℕ) → releasedOf recording sheet ≡ releasedOf recording′ sheet′ → copy recording sheet buffer ≡ copy recording′ sheet′ buffer
-
--- Equal released lists give equal measurements.
-abbrev pub SameMeasurements : Type 0
-SameMeasurements = (recording recording′ sheet sheet′ : List ℕ) → releasedOf recording sheet ≡ releasedOf recording′ sheet′ → measurement recording sheet ≡ measurement recording′ sheet′
+-- Equal released lists (or equal refusals in their place) give equal answers, counts, refusals and buffers, whatever else differs in recordings and sheets; and
+-- equal measurements.
+pub record SameCopies (recording recording′ sheet sheet′ : List ℕ) (same : releasedOf recording sheet ≡ releasedOf recording′ sheet′) : Type 0 where
+  pub written : (buffer : List ℕ) → copy recording sheet buffer ≡ copy recording′ sheet′ buffer
+  pub measured : measurement recording sheet ≡ measurement recording′ sheet′
 
 -- Released lists that differ, and room for both, give copies that differ.
 abbrev pub DifferentCopies : Type 0
@@ -250,16 +226,14 @@ DifferentCopies = (recording recording′ sheet sheet′ buffer buffer′ : List
     → releasedOf recording sheet ≡ good es → releasedOf recording′ sheet′ ≡ good es′ → length (copyBytes es) ≤ length buffer → length (copyBytes es′) ≤ length buffer′
     → (es ≡ es′ → ⊥) → delivered (copy recording sheet buffer) ≡ delivered (copy recording′ sheet′ buffer′) → ⊥
 
--- With room, the copy is the released list's, and its counts are the released list's lengths: of its entries, and of their packages joined.
-abbrev pub CountsReleased : Type 0
-CountsReleased = (recording sheet buffer : List ℕ) (es : List Entry) → releasedOf recording sheet ≡ good es → length (copyBytes es) ≤ length buffer
-    → (copy recording sheet buffer .0 ≡ record { number = 0; place = 0; bytes = length (copyBytes es); messages = length es; packages = length (join (map (λ (e : Entry). e .packages) es)) })
-    × (delivered (copy recording sheet buffer) ≡ copyBytes es)
-
--- The measurement is the released list's: the bytes of its copy, its entries, and their packages joined.
-abbrev pub MeasuredReleased : Type 0
-MeasuredReleased = (recording sheet : List ℕ) (es : List Entry) → releasedOf recording sheet ≡ good es
-    → measurement recording sheet ≡ record { number = 0; place = 0; bytes = length (copyBytes es); messages = length es; packages = length (join (map (λ (e : Entry). e .packages) es)) }
+-- The measurement is the released list's: the bytes of its copy, its entries, and their packages joined. With room, these are the copy's counts, and what is
+-- delivered is the released list's copy. It is a recording that passes, with a message for each entry, and is never longer than the recording it was made from.
+pub record CopyExactly (recordingBytes sheetBytes : List ℕ) (es : List Entry) (list : releasedOf recordingBytes sheetBytes ≡ good es) : Type 0 where
+  pub measured : measurement recordingBytes sheetBytes ≡ record { number = 0; place = 0; bytes = length (copyBytes es); messages = length es; packages = length (join (map (λ (e : Entry). e .packages) es)) }
+  pub written : (buffer : List ℕ) → length (copyBytes es) ≤ length buffer
+      → (copy recordingBytes sheetBytes buffer .0 ≡ measurement recordingBytes sheetBytes) × (delivered (copy recordingBytes sheetBytes buffer) ≡ copyBytes es)
+  pub read : Bytes recordingBytes → recording (copyBytes es) ≡ good (copyMessages [] es)
+  pub short : Bytes recordingBytes → length (copyBytes es) ≤ length recordingBytes
 
 -- Measured first, then written. Measuring never gives ROOM. A buffer of the measured bytes has room, and what is written is what was measured, number for
 -- number; a shorter one is ROOM, with the measured bytes as its place. Otherwise both refuse the same for the same reason at the same place, and the buffer stays.
@@ -286,16 +260,7 @@ pub record ReleasedExactly (rows : List Row) : Type 0 where
       → released rows (m ∷ []) ≡ record { id = m .id; seconds = m .seconds; nanos = m .nanos; flags = m .flags / 2 % 8 * 2; packages = k ∷ ks } ∷ []
   pub silent : (m : Message) → grantedPackages rows m (m .packages) ≡ [] → released rows (m ∷ []) ≡ []
 
--- The copy is its messages, one behind the other, and is read as such.
-abbrev pub CopyRead : Type 0
-CopyRead = (recording sheet buffer : List ℕ) (es : List Entry) → Bytes recording → releasedOf recording sheet ≡ good es → length (copyBytes es) ≤ length buffer
-    → items message 0 0 (delivered (copy recording sheet buffer)) ≡ good (copyMessages [] es)
-
--- It is never longer than its recording.
-abbrev pub CopyNotLonger : Type 0
-CopyNotLonger = (recording sheet : List ℕ) (es : List Entry) → Bytes recording → releasedOf recording sheet ≡ good es → length (copyBytes es) ≤ length recording
-
--- Each of its messages has no options, playback set, and end of data not set.
+-- Each message of the copy has no options, playback set, and end of data not set.
 pub record Plain (m : Message) : Type 0 where
   pub options : m .options ≡ []
   pub playback : m .flags / 64 % 2 ≡ 1
@@ -303,6 +268,29 @@ pub record Plain (m : Message) : Type 0 where
 
 abbrev pub CopyPlain : Type 0
 CopyPlain = (rows : List Row) (ms : List Message) → All Plain (copyMessages [] (released rows ms))
+
+-- ---- Document 02, A14: two sheets in turn, and a row more.
+
+-- c is the copy of a recording under one sheet, d that under another. Copied again under the other sheet, c releases exactly the packages of the recording that
+-- both grant; so does d under the one. Either way gives the same answer and the same bytes in whatever buffer, the same measurement, and in two buffers the same
+-- copy. Under its own sheet c is copied as the recording is, and comes out unchanged. One sheet with the rows of both releases what either grants.
+pub record InTurn (recordingBytes sheetBytes sheetBytes′ c d : List ℕ) (rows rows′ : List Row) (ms : List Message) : Type 0 where
+  pub both : releasedOf c sheetBytes′ ≡ good (releasedBy (λ m k. granted rows m k && granted rows′ m k) ms)
+  pub equal : (buffer : List ℕ) → copy c sheetBytes′ buffer ≡ copy d sheetBytes buffer
+  pub measured : measurement c sheetBytes′ ≡ measurement d sheetBytes
+  pub delivered : (e f : List ℕ) → Copied c sheetBytes′ e → Copied d sheetBytes f → e ≡ f
+  pub again : (buffer : List ℕ) → copy c sheetBytes buffer ≡ copy recordingBytes sheetBytes buffer
+  pub own : (e : List ℕ) → Copied c sheetBytes e → e ≡ c
+  pub joined : length (sheetBytes ++ sheetBytes′) ≤ mostRows * rowBytes → releasedOf recordingBytes (sheetBytes ++ sheetBytes′) ≡ good (releasedBy (λ m k. granted rows m k || granted rows′ m k) ms)
+
+abbrev pub TwoSheets : Type 0
+TwoSheets = (recordingBytes sheetBytes sheetBytes′ c d : List ℕ) → Bytes recordingBytes → Copied recordingBytes sheetBytes c → Copied recordingBytes sheetBytes′ d
+    → (rows rows′ : List Row) (ms : List Message) → sheet sheetBytes ≡ good rows → sheet sheetBytes′ ≡ good rows′ → recording recordingBytes ≡ good ms → InTurn recordingBytes sheetBytes sheetBytes′ c d rows rows′ ms
+
+-- A row added anywhere in a sheet takes no package out of the copy.
+abbrev pub RowAdded : Type 0
+RowAdded = (recordingBytes front row back c d : List ℕ) → Bytes recordingBytes → length front % rowBytes ≡ 0 → length row ≡ rowBytes
+    → Copied recordingBytes (front ++ back) c → Copied recordingBytes (front ++ (row ++ back)) d → Holds d c
 
 -- ---- What a promise allows: where `told` tells answers apart, any two answers that a promise `told r ≡ d` allows are identical.
 
@@ -317,12 +305,13 @@ OneOutcome = (A B : Type 0) (told : A → B) → TellsApart told → (d : B) (a 
 pub record Claims : Type 1 where
   pub buffers : BuffersKept
   pub premises : PremisesMet × AcceptedValid × ReadValid
-  pub reading : SpotOfRecord × SpotExactly × CountsChecked × OptionsExactly × CountExactly × PackageExactly × CutExactly × PackagePlace × WalkShowsAll × WalkStays
+  pub reading : SpotOfRecord × SpotExactly × CountsChecked × OptionsExactly × CountExactly × PackageExactly × WalkExactly
   pub writing : WrittenRead × ReadWritten × PartsWritten × WriterWrites
   pub cleaning : CleanerWrites × CleanAlone × CleanTwice × CleanExactly
-  pub measuring : MeasuredReleased × ((recording sheet : List ℕ) → MeasuredFirst recording sheet)
-  pub copying : GrantedExactly × NoEmptyWindow × SeamOnce × SeamWhole × ((ns : List ℕ) (ms : List Message) → AcquiredOnly ns ms) × ((rows : List Row) → ReleasedExactly rows) × SequenceCounted × CountsReleased × CopyRead × CopyNotLonger × CopyPlain
-  pub bursts : Recurrence × BitPeriod × TableEntry × RandomizedTwice × RandomizedByte × BurstExactly
-  pub silence : SameCopies × SameMeasurements × DifferentCopies
+  pub measuring : (recording sheet : List ℕ) → MeasuredFirst recording sheet
+  pub granting : GrantedExactly × WindowsExactly × ((ns : List ℕ) (ms : List Message) → AcquiredOnly ns ms) × ((rows : List Row) → ReleasedExactly rows)
+  pub copying : ((recordingBytes sheetBytes : List ℕ) (es : List Entry) (list : releasedOf recordingBytes sheetBytes ≡ good es) → CopyExactly recordingBytes sheetBytes es list) × SequenceCounted × CopyPlain × TwoSheets × RowAdded
+  pub bursts : RandomizerExactly × BurstExactly
+  pub silence : ((recording recording′ sheet sheet′ : List ℕ) (same : releasedOf recording sheet ≡ releasedOf recording′ sheet′) → SameCopies recording recording′ sheet sheet′ same) × DifferentCopies
   pub outcomes : OneOutcome
   pub numbers : Table × Edges

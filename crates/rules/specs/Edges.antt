@@ -2,12 +2,13 @@
 -- and of document 02, A2.
 use Prim.Native.Nat.{ℕ, _+_, _*_, _/_, _%_, _^_}
 use mathlib.Core.Path.{_≡_}
-use mathlib.Core.Bool.{true, false}
+use mathlib.Core.Bool.{true}
 use mathlib.Core.List.{List, [], _∷_, _++_, map}
 use lib.Dec.{eqb}
 use lib.ListN.{length, take, drop, set, replicate}
 use Rattle.rules.specs.Outcome.{Outcome, good, bad, _>>=_, SHORT, VERSION, TYPE, LENGTH, CUT, TIME, OPTION, FRAGMENT, STANDARD, PACKAGE, ROW, LARGE, ROOM, MARKER, BLOCKS, COUNT}
 use Rattle.rules.specs.Bytes.{join}
+use Rattle.rules.specs.Items.{passing}
 use Rattle.rules.specs.Message.{Message, recording}
 use Rattle.rules.specs.Reading.{header, optionStart, messageAt}
 use Rattle.rules.specs.Walk.{packageAt, startAt, nextAt, dataAt}
@@ -50,8 +51,7 @@ optionsOf ws = messageOf 0x80 (words ws) (drop 24 M)
 
 -- those of these lengths that an option of kind k may have
 abbrev pub lengthsOf : ℕ → List ℕ → List ℕ
-lengthsOf k [] = []
-lengthsOf k (n ∷ ns) = elim (eqb (told (runOf (k ∷ n ∷ replicate 58 0)) .0) 0) [ true ↦ n ∷ lengthsOf k ns | false ↦ lengthsOf k ns ]
+lengthsOf k ns = passing (λ n. eqb (told (runOf (k ∷ n ∷ replicate 58 0)) .0) 0) ns
 
 -- a walk's step at place k of M's payload: number and place, where the data begin, where the walk then stands, and the data
 abbrev pub stepAt : ℕ → (ℕ × ℕ) × ℕ × ℕ × List ℕ

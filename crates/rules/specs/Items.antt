@@ -1,6 +1,6 @@
 -- Document 01, 'Refusal numbers': messages follow each other to the last byte; so do the packages of a payload and the rows of a sheet.
 use Prim.Native.Nat.{ℕ, zero, suc, _-_}
-use mathlib.Core.Bool.{true, false}
+use mathlib.Core.Bool.{Bool, true, false}
 use mathlib.Core.List.{List, [], _∷_, _++_}
 use lib.Dec.{eqb}
 use Rattle.rules.specs.Outcome.{Outcome, good, _>>=_, _∷>_}
@@ -28,3 +28,8 @@ pub data Fills (P : List ℕ → Type 0) : List (List ℕ) → List ℕ → Type
 unfoldable pub count : ℕ → List ℕ → ℕ
 count x [] = 0
 count x (y ∷ l) = elim (eqb x y) [ true ↦ suc (count x l) | false ↦ count x l ]
+
+-- those that pass a test, in order
+abbrev pub passing : {A : Type 0} → (A → Bool) → List A → List A
+passing test [] = []
+passing test (a ∷ l) = elim (test a) [ true ↦ a ∷ passing test l | false ↦ passing test l ]

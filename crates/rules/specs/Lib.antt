@@ -13,6 +13,7 @@ pub mod Clean
 pub mod Valid
 pub mod Sheet
 pub mod Copy
+pub mod Turns
 pub mod Burst
 pub mod Table
 pub mod Edges

@@ -36,18 +36,7 @@ pub record Row : Type 0 where
 
 -- the fields of a row's 256 bits, the first the highest
 unfoldable pub rowOf : ℕ → Row
-rowOf n = record {
-  firstMessage = n / 2 ^ 224 % 2 ^ 32;
-  lastMessage = n / 2 ^ 192 % 2 ^ 32;
-  firstPackage = n / 2 ^ 160 % 2 ^ 32;
-  lastPackage = n / 2 ^ 128 % 2 ^ 32;
-  startSeconds = n / 2 ^ 96 % 2 ^ 32;
-  startNanos = n / 2 ^ 66 % 2 ^ 30;
-  endSeconds = n / 2 ^ 34 % 2 ^ 32;
-  endNanos = n / 2 ^ 4 % 2 ^ 30;
-  spare = n / 2 % 2 ^ 3;
-  acquiredOnly = eqb (n % 2) 1;
-}
+rowOf n = record { firstMessage = n / 2 ^ 224 % 2 ^ 32; lastMessage = n / 2 ^ 192 % 2 ^ 32; firstPackage = n / 2 ^ 160 % 2 ^ 32; lastPackage = n / 2 ^ 128 % 2 ^ 32; startSeconds = n / 2 ^ 96 % 2 ^ 32; startNanos = n / 2 ^ 66 % 2 ^ 30; endSeconds = n / 2 ^ 34 % 2 ^ 32; endNanos = n / 2 ^ 4 % 2 ^ 30; spare = n / 2 % 2 ^ 3; acquiredOnly = eqb (n % 2) 1 }
 
 -- when a row's window starts, and when it ends
 abbrev pub startOf : Row → ℕ
