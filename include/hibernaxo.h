@@ -1,4 +1,5 @@
-/* hibernaxo: reading, checking, writing and cleaning network recordings, order sheets, the release copy and bursts.
+/* hibernaxo: reading, checking, writing and cleaning network recordings, order sheets, the release copy, the purge and
+ * bursts.
  *
  * Each function returns a refusal number, HIBERNAXO_OK for success, and stores its values on every call. values[0] is
  * always the place of the refusal, a byte offset in the input named, or what the number says below; on success it is 0.
@@ -50,6 +51,7 @@ enum hibernaxo_refusal {
 #define HIBERNAXO_SHEET_VALUES 290
 #define HIBERNAXO_COPY_MEASURE_VALUES 4
 #define HIBERNAXO_COPY_WRITE_VALUES 4
+#define HIBERNAXO_PURGE_VALUES 2
 #define HIBERNAXO_RANDOMIZE_VALUES 1
 #define HIBERNAXO_OPEN_BURST_VALUES 2
 
@@ -99,6 +101,13 @@ uint32_t hibernaxo_copy_measure(const uint8_t *recording, size_t recording_lengt
 uint32_t hibernaxo_copy_write(const uint8_t *recording, size_t recording_length, const uint8_t *sheet,
                               size_t sheet_length, uint8_t *out, size_t out_length,
                               uint64_t values[HIBERNAXO_COPY_WRITE_VALUES]);
+
+/* Purges a recording, which is the whole buffer, of every package that an order sheet grants (refusals 11, 12, 1 to 10
+ * and 17, never 13). What is left stands in clean form from the buffer's start on, sequence numbers and options kept
+ * and an option 0x87 set to the packages left; a message that loses its last package goes whole. Every byte behind it
+ * is 0 and may be appended to. values: [1] bytes in use: hand over so many as the recording from then on. */
+uint32_t hibernaxo_purge(uint8_t *buffer, size_t buffer_length, const uint8_t *sheet, size_t sheet_length,
+                         uint64_t values[HIBERNAXO_PURGE_VALUES]);
 
 /* Randomizes a buffer (refusal 12). A second call gives its bytes back. There is no value but the place. */
 uint32_t hibernaxo_randomize(uint8_t *buf, size_t buf_length, uint64_t values[HIBERNAXO_RANDOMIZE_VALUES]);

@@ -444,6 +444,63 @@ static void copies(void)
     KEPT(out);
 }
 
+/* Four messages, worked out by hand: one with a count that loses a package, one that loses its last, one that had none, one that loses
+ * nothing; and what is left of them under R, every freed byte zero. */
+static const char FOUR[] = "12A05BCF 00000007 00000005 00000040 00000064 00000000 87060000 000200FF"
+                           "00000001 000D0000 00000000 AA112233 00000002 00105500 0000000A DEADBEEF"
+                           "10000080 00000007 00000006 00000028 00000064 00000000 00000001 000D0000 00000000 AA112233"
+                           "13000000 00000007 00000007 00000024 00000064 00000000 0100FFFF FFFFFFFF FFFFFFFF"
+                           "10000080 00000008 FFFFFFFF 00000028 00000064 00000000 00000001 000D7703 00000000 AA112233";
+static const char LEFT[] = "120000CF 00000007 00000005 00000030 00000064 00000000 87060000 00010000 00000002 00100000 0000000A DEADBEEF"
+                           "11000000 00000007 00000007 0000001C 00000064 00000000 01000000"
+                           "10000080 00000008 FFFFFFFF 00000028 00000064 00000000 00000001 000D0003 00000000 AA000000";
+
+/* From an index on there are only zeros. */
+static void cleared(int line, struct lent out, size_t from)
+{
+    for (size_t k = from; k < out.length; k++)
+        if (out.bytes[k] != 0)
+            fail(line, "a freed byte is not zero");
+}
+
+#define LEFT_OF(out, text) (holds(__LINE__, out, 0, text), cleared(__LINE__, out, from_hex(text, NULL)))
+
+static void purging(void)
+{
+    struct lent sheet = input(R), none = zeros(0), bad = zeros(31), buf = bytes_of(FOUR);
+    CALL(hibernaxo_purge, buf.bytes, buf.length, sheet.bytes, sheet.length, values(HIBERNAXO_PURGE_VALUES));
+    EXPECT(HIBERNAXO_OK, 0, 116);
+    LEFT_OF(buf, LEFT);
+    /* what is left is a recording, and loses nothing more; appended to, it is one again */
+    CALL(hibernaxo_check, buf.bytes, 116, values(HIBERNAXO_CHECK_VALUES));
+    EXPECT(HIBERNAXO_OK, 0, 3, 2);
+    CALL(hibernaxo_purge, buf.bytes, 116, sheet.bytes, sheet.length, values(HIBERNAXO_PURGE_VALUES));
+    EXPECT(HIBERNAXO_OK, 0, 116);
+    LEFT_OF(buf, LEFT);
+    from_hex(M, buf.bytes + 116);
+    CALL(hibernaxo_check, buf.bytes, 116 + 56, values(HIBERNAXO_CHECK_VALUES));
+    EXPECT(HIBERNAXO_OK, 0, 4, 4);
+    buf = bytes_of(M);
+    CALL(hibernaxo_purge, buf.bytes, buf.length, none.bytes, none.length, values(HIBERNAXO_PURGE_VALUES));
+    EXPECT(HIBERNAXO_OK, 0, 56);
+    LEFT_OF(buf, CLEAN);
+    buf = lend(0, 0);
+    CALL(hibernaxo_purge, buf.bytes, buf.length, sheet.bytes, sheet.length, values(HIBERNAXO_PURGE_VALUES));
+    EXPECT(HIBERNAXO_OK, 0, 0);
+    buf = bytes_of(FOUR);
+    CALL(hibernaxo_purge, buf.bytes, buf.length, bad.bytes, bad.length, values(HIBERNAXO_PURGE_VALUES));
+    EXPECT(HIBERNAXO_ROW, 31);
+    HOLDS(buf, 0, FOUR);
+    /* a refusal behind packages that are granted */
+    CALL(hibernaxo_purge, buf.bytes, buf.length - 4, sheet.bytes, sheet.length, values(HIBERNAXO_PURGE_VALUES));
+    EXPECT(HIBERNAXO_CUT, 140);
+    HOLDS(buf, 0, FOUR);
+    buf = buffer(LARGEST + 1);
+    CALL(hibernaxo_purge, buf.bytes, buf.length, sheet.bytes, sheet.length, values(HIBERNAXO_PURGE_VALUES));
+    EXPECT(HIBERNAXO_LARGE, LARGEST);
+    KEPT(buf);
+}
+
 static void randomizing(void)
 {
     struct lent buf = lend(769, 0); /* P12, by the bytes of zeros that were randomized */
@@ -485,7 +542,7 @@ static void bursts(void)
 
 int main(void)
 {
-    static void (*const groups[])(void) = {headers, packages, checks, writing, cleaning, sheets, copies, randomizing, bursts};
+    static void (*const groups[])(void) = {headers, packages, checks, writing, cleaning, sheets, copies, purging, randomizing, bursts};
     signal(SIGSEGV, touched);
     signal(SIGBUS, touched);
     for (size_t k = 0; k < sizeof groups / sizeof *groups; k++) {

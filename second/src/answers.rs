@@ -4,7 +4,7 @@
 use crate::copy::Copied;
 use crate::refusal::Refusal;
 use crate::render::Draft;
-use crate::{burst, copy, parse, render, sheet};
+use crate::{burst, copy, parse, purge, render, sheet};
 
 #[derive(Clone, Copy, Debug, PartialEq, Eq)]
 pub struct Answer<const N: usize> {
@@ -134,6 +134,13 @@ pub fn copy_measure(recording: &[u8], sheet: &[u8]) -> Answer<4> {
 
 pub fn copy_write(recording: &[u8], sheet: &[u8], out: &mut [u8]) -> Answer<4> {
     copied(copy::write(recording, sheet, out))
+}
+
+pub fn purge(buffer: &mut [u8], sheet: &[u8]) -> Answer<2> {
+    match purge::purge(buffer, sheet) {
+        Ok(bytes) => Answer::success(&[bytes]),
+        Err(refusal) => Answer::refused(refusal),
+    }
 }
 
 pub fn randomize(buffer: &mut [u8]) -> Answer<1> {

@@ -7,11 +7,14 @@ use crate::drafts::{bad_draft, draft_of, good_draft, OwnDraft};
 use crate::generate::*;
 use crate::judge::Judge;
 use crate::lent::room_for;
-use crate::orders::{bad_sheet, everything, pack_sheet, rows, targets, Target};
+use crate::orders::{bad_sheet, everything, pack_sheet, row_around, rows, targets, Target};
 use crate::pairs::Pair;
 use crate::refusal::{MOST_BYTES, ROOM};
+use crate::rests::Scene;
 use crate::seams::Seam;
-use crate::{copy, demand, in_turn, measuring, releases, render, round_trips, side_by_side};
+use crate::{
+    copy, demand, in_turn, measuring, purging, releases, render, round_trips, side_by_side,
+};
 
 type Case = fn(&mut Judge, &mut Dice);
 
@@ -35,7 +38,7 @@ const KINDS: [(u64, Case); 15] = [
 ];
 
 /// What is tried beside these cases: one case beside each so many of them.
-const BESIDE: [(u64, Case); 1] = [(7, pair_case)];
+const BESIDE: [(u64, Case); 3] = [(7, pair_case), (8, purge_case), (12, purging_case)];
 
 /// Runs the case with this number, and what is tried beside it.
 pub fn run(judge: &mut Judge, seed: u64, case: u64) {
@@ -284,6 +287,32 @@ fn pair_case(judge: &mut Judge, dice: &mut Dice) {
     judge.kind("two sheets in turn");
     let pair = Pair::new(dice);
     in_turn::in_turn(judge, dice, &pair);
+}
+
+fn purge_case(judge: &mut Judge, dice: &mut Dice) {
+    judge.kind("purge");
+    let (recording, sheet) = if dice.chance(1, 3) {
+        recording_and_sheet(dice)
+    } else {
+        let world = World::new(dice);
+        let messages = messages(dice, &world);
+        let aims = targets(&messages);
+        let mut rows = rows(dice, &aims);
+        if !aims.is_empty() && rows.len() < 32 && dice.chance(2, 3) {
+            let aim = dice.pick(&aims);
+            rows.push(row_around(dice, aim));
+        }
+        let recording =
+            if dice.chance(1, 4) { damaged(dice, messages) } else { lay_all(&messages).0 };
+        (recording, pack_sheet(&rows))
+    };
+    side_by_side::purge(judge, dice, &recording, &sheet);
+}
+
+fn purging_case(judge: &mut Judge, dice: &mut Dice) {
+    judge.kind("what stays of a purge, and what goes");
+    let scene = Scene::new(dice);
+    purging::purging(judge, dice, &scene);
 }
 
 fn randomize_case(judge: &mut Judge, dice: &mut Dice) {

@@ -51,6 +51,13 @@ pub mod raw {
             out_len: usize,
             values: *mut u64,
         ) -> u32;
+        pub fn hibernaxo_purge(
+            buffer: *mut u8,
+            buffer_len: usize,
+            sheet: *const u8,
+            sheet_len: usize,
+            values: *mut u64,
+        ) -> u32;
         pub fn hibernaxo_randomize(buf: *mut u8, len: usize, values: *mut u64) -> u32;
         pub fn hibernaxo_open_burst(buf: *mut u8, len: usize, values: *mut u64) -> u32;
     }
@@ -143,6 +150,18 @@ pub fn copy_write(recording: &mut [u8], sheet: &mut [u8], out: &mut [u8]) -> Giv
             sheet.len(),
             out.as_mut_ptr(),
             out.len(),
+            values,
+        )
+    })
+}
+
+pub fn purge(buffer: &mut [u8], sheet: &mut [u8]) -> Given<2> {
+    call(|values| unsafe {
+        raw::hibernaxo_purge(
+            buffer.as_mut_ptr(),
+            buffer.len(),
+            sheet.as_mut_ptr(),
+            sheet.len(),
             values,
         )
     })

@@ -6,7 +6,7 @@ use crate::refusal::{NAMES, NUMBERS};
 use std::fmt::Write;
 
 /// The exports, and the refusal numbers that each of them can give.
-pub const EXPORTS: [(&str, &[u32]); 10] = [
+pub const EXPORTS: [(&str, &[u32]); 11] = [
     ("header", &[1, 2, 3, 4, 5, 6, 7, 12]),
     ("package", &[10, 12]),
     ("check", &[1, 2, 3, 4, 5, 6, 7, 8, 9, 10, 12, 17]),
@@ -15,6 +15,7 @@ pub const EXPORTS: [(&str, &[u32]); 10] = [
     ("sheet", &[11]),
     ("copy_measure", &[1, 2, 3, 4, 5, 6, 7, 8, 9, 10, 11, 12, 17]),
     ("copy_write", &[1, 2, 3, 4, 5, 6, 7, 8, 9, 10, 11, 12, 13, 17]),
+    ("purge", &[1, 2, 3, 4, 5, 6, 7, 8, 9, 10, 11, 12, 17]),
     ("randomize", &[12]),
     ("open_burst", &[12, 14, 15]),
 ];

@@ -9,6 +9,7 @@ pub mod burst;
 pub mod copy;
 pub mod paper;
 pub mod parse;
+pub mod purge;
 pub mod refusal;
 pub mod render;
 pub mod sheet;
@@ -21,6 +22,7 @@ pub mod drafts;
 pub mod generate;
 pub mod orders;
 pub mod pairs;
+pub mod rests;
 pub mod seams;
 
 // The comparison with the library's exports.
@@ -40,6 +42,8 @@ pub mod limits;
 #[cfg(feature = "exports")]
 pub mod measuring;
 pub mod programs;
+#[cfg(feature = "exports")]
+pub mod purging;
 #[cfg(feature = "exports")]
 pub mod releases;
 #[cfg(feature = "exports")]

@@ -13,8 +13,10 @@ use crate::measuring::measured_then_written;
 use crate::orders::*;
 use crate::pairs::Pair;
 use crate::paper::{m_with, m_with_options, message_m, row_r};
+use crate::purging::purging;
 use crate::refusal::MOST_BYTES;
 use crate::releases::{acquired, neighbours, set_simulated};
+use crate::rests::Scene;
 use crate::round_trips::{trip, TRIPS};
 use crate::seams::Seam;
 use crate::sheet::Row;
@@ -23,7 +25,7 @@ use crate::side_by_side;
 type Part = fn(&mut Limits);
 
 /// The parts in their order.
-const PARTS: [(&str, Part); 17] = [
+const PARTS: [(&str, Part); 18] = [
     ("the paper's numbers", paper_numbers),
     ("sizes", sizes),
     ("faults", faults),
@@ -38,6 +40,7 @@ const PARTS: [(&str, Part); 17] = [
     ("the copy's order", copy_order),
     ("measuring", measuring),
     ("sequence numbers", sequence_numbers),
+    ("purges", purges),
     ("bursts", bursts),
     ("demand 3", demand_3),
     ("round trips", round_trips),
@@ -106,6 +109,11 @@ impl Limits<'_> {
         measured_then_written(self.judge, &mut self.dice, recording, sheet);
     }
 
+    fn purge(&mut self, recording: &[u8], sheet: &[u8]) {
+        self.next("purge");
+        side_by_side::purge(self.judge, &mut self.dice, recording, sheet);
+    }
+
     fn randomize(&mut self, bytes: &[u8]) {
         self.next("randomize");
         side_by_side::randomize(self.judge, &mut self.dice, bytes);
@@ -124,6 +132,7 @@ impl Limits<'_> {
             self.clean(bytes, room);
             self.copy(bytes, &row_r(), room);
         }
+        self.purge(bytes, &row_r());
     }
 }
 
@@ -657,6 +666,99 @@ fn sequence_numbers_of(limits: &mut Limits, id: impl Fn(usize) -> u32) {
         limits.copy(&recording, &pack_row(&row, 0), recording.len());
     }
     limits.check(&recording);
+}
+
+/// What a purge looks at: the order of its checks, counts, messages without
+/// packages, every pair of faults, the longest recordings, and ranges that just
+/// touch a package.
+fn purges(limits: &mut Limits) {
+    let all = pack_sheet(&[everything()]);
+    let bad_row = pack_row(&everything(), 2);
+    let damaged = [message_m(), m_with(29, &[11])].concat();
+    for sheet in [&bad_row, &vec![0; 33], &vec![0; 1_056], &all, &row_r(), &Vec::new()] {
+        for recording in [&vec![0; 65_537], &damaged, &message_m(), &Vec::new()] {
+            limits.purge(recording, sheet);
+        }
+    }
+    purged_counts(limits);
+    for first in FAULTS {
+        for second in FAULTS {
+            let world = World::new(&mut limits.dice);
+            let mut same = Vec::new();
+            for _ in 0..3 {
+                same.push(message(&mut limits.dice, &world, 2));
+            }
+            let mut apart = same.clone();
+            let bytes = with_faults(&mut limits.dice, &mut same, &[(0, first), (0, second)]);
+            limits.purge(&bytes, &all);
+            let bytes = with_faults(&mut limits.dice, &mut apart, &[(1, first), (2, second)]);
+            limits.purge(&bytes, &all);
+        }
+    }
+    purged_sizes(limits);
+    for _ in 0..40 {
+        let world = World::new(&mut limits.dice);
+        let one = message(&mut limits.dice, &world, 3);
+        let target = targets(std::slice::from_ref(&one))[1];
+        let near = row_near(&mut limits.dice, target);
+        let around = row_around(&mut limits.dice, target);
+        for row in [near, around, Row { acquired_only: true, ..everything() }] {
+            limits.purge(&one.laid(), &pack_row(&row, 0));
+        }
+    }
+    for _ in 0..50 {
+        let scene = Scene::new(&mut limits.dice);
+        limits.next("what stays of a purge, and what goes");
+        purging(limits.judge, &mut limits.dice, &scene);
+    }
+}
+
+/// M with each number of packages left, with a count and without, and messages
+/// without packages.
+fn purged_counts(limits: &mut Limits) {
+    let mut recordings = Vec::new();
+    for options in [
+        &[][..],
+        &[0x87, 6, 0, 0, 0, 2, 0, 0xEE],
+        &[1, 0x86, 6, 0, 0, 0, 9, 0x87, 6, 0, 0, 0, 2, 5, 0, 0xEE],
+        &[0x80, 8, 0x87, 6, 0, 0, 0, 2],
+        &[0, 0x87, 6, 0, 0, 0, 1, 0],
+    ] {
+        let m = m_with_options(options);
+        recordings.push([&m[..], &message_m(), &m].concat());
+        recordings.push(m);
+    }
+    for options in [&[][..], &[0x87, 6, 0, 0, 0, 0, 0, 7], &[1, 2, 3, 0, 9, 9, 9, 9]] {
+        let mut empty = m_with_options(options);
+        empty.truncate(24 + options.len());
+        (empty[2], empty[3], empty[15]) = (0xFF, 0x4F, empty.len() as u8);
+        recordings.push([&empty[..], &message_m(), &empty].concat());
+        recordings.push(empty);
+    }
+    for recording in recordings {
+        for (first, last) in [(1, 1), (2, 2), (1, 2), (3, 3)] {
+            let row = Row { package_first: first, package_last: last, ..everything() };
+            limits.purge(&recording, &pack_row(&row, 0));
+        }
+        limits.purge(&recording, &[]);
+    }
+}
+
+/// Recordings at and just above 65,536 bytes, of which all goes, some, or none.
+fn purged_sizes(limits: &mut Limits) {
+    let world = World::new(&mut limits.dice);
+    for style in [Style::Mixed, Style::OnePackageEach, Style::ManyIds, Style::FewLarge] {
+        for size in [24, 36, 65_532, 65_536, 65_540] {
+            let messages = messages_of_size(&mut limits.dice, &world, size, style);
+            let recording = lay_all(&messages).0;
+            let mut some = rows(&mut limits.dice, &targets(&messages));
+            limits.purge(&recording, &pack_sheet(&some));
+            some.truncate(1);
+            limits.purge(&recording, &pack_sheet(&some));
+            limits.purge(&recording, &pack_sheet(&[everything()]));
+            limits.purge(&recording, &[]);
+        }
+    }
 }
 
 fn bursts(limits: &mut Limits) {

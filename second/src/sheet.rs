@@ -22,11 +22,11 @@ pub struct Row {
 }
 
 impl Row {
-    fn start(&self) -> u64 {
+    pub fn start(&self) -> u64 {
         package_time(self.start_seconds, self.start_nanoseconds, 0)
     }
 
-    fn end(&self) -> u64 {
+    pub fn end(&self) -> u64 {
         package_time(self.end_seconds, self.end_nanoseconds, 0)
     }
 

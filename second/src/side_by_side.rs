@@ -20,8 +20,9 @@ const CLEAN: usize = 4;
 const SHEET: usize = 5;
 const COPY_MEASURE: usize = 6;
 const COPY_WRITE: usize = 7;
-const RANDOMIZE: usize = 8;
-const OPEN_BURST: usize = 9;
+const PURGE: usize = 8;
+const RANDOMIZE: usize = 9;
+const OPEN_BURST: usize = 10;
 
 pub fn header(judge: &mut Judge, dice: &mut Dice, bytes: &[u8]) -> Answer<10> {
     let mut input = Lent::new(dice, bytes);
@@ -141,6 +142,23 @@ pub fn copy(
     let written = copy_write(judge, dice, recording, sheet, &buffer);
     measuring::agree(judge, measured, written.0, room);
     written
+}
+
+/// The purge of the recording that fills the buffer. What comes back are the
+/// answer and the whole buffer.
+pub fn purge(
+    judge: &mut Judge,
+    dice: &mut Dice,
+    recording: &[u8],
+    sheet: &[u8],
+) -> (Answer<2>, Vec<u8>) {
+    let mut buffer = Lent::new(dice, recording);
+    let mut order = Lent::new(dice, sheet);
+    let given = exports::purge(buffer.lend(), order.lend());
+    let expected = answers::purge(buffer.expected(), sheet);
+    let buffers = [("buffer", &buffer), ("sheet", &order)];
+    judge.settle(PURGE, &[], expected, given, &buffers);
+    (given.answer, buffer.content().to_vec())
 }
 
 pub fn randomize(judge: &mut Judge, dice: &mut Dice, bytes: &[u8]) -> (Answer<1>, Vec<u8>) {

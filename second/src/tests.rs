@@ -1,7 +1,8 @@
 //! The paper's numbers: P1 to P12, and what is to be run and compared. The
-//! requests that change the paper's rules have a module of their own.
+//! requests have modules of their own.
 
 mod changed_rules;
+mod purge;
 mod two_sheets;
 
 use crate::burst::{open_burst, randomize, MARKER_BYTES, SEQUENCE};

@@ -1,14 +1,18 @@
 -- What is stored: a run of packages, cut and written; and the message of a draft.
-use Prim.Native.Nat.{ℕ, zero, _+_, _≤_}
+use Prim.Native.Nat.{ℕ, zero, _+_, _/_, _≤_}
 use mathlib.Core.Path.{_≡_}
 use mathlib.Core.List.{List, [], _∷_, map}
+use mathlib.Core.Bool.{true, false}
+use lib.Dec.{eqb}
 use lib.ListN.{length, drop}
 use lib.Seq.{sets}
 use Rattle.rules.specs.Outcome.{Outcome, good, bad}
 use Rattle.rules.specs.Bytes.{at, half, word, put16, put32, pad, part, join}
 use Rattle.rules.specs.Packages.{cut, packageOf, pieceOf}
+use Rattle.rules.specs.Message.{recordBits}
 use Rattle.rules.specs.Writer.{write, Draft, drafted}
 use Rattle.rules.specs.Buffer.{Written, stored, fitted}
+use Rattle.compose.specs.declared.Record.{Record}
 
 -- the run is cut into pieces
 pub record Cuts (s : List ℕ) : Type 0 where
@@ -36,6 +40,14 @@ pub record Moved (buffer run : List ℕ) (i : ℕ) (after : List ℕ) (e : ℕ) 
 -- the 24 bytes of a header: words, flags, id, sequence, size, seconds, nanos
 abbrev pub headerOf : ℕ → ℕ → ℕ → ℕ → ℕ → ℕ → ℕ → List ℕ
 headerOf w f i q z s n = (16 + w) ∷ 0 ∷ 0 ∷ f ∷ put32 i (put32 q (put32 z (put32 s (put32 n []))))
+
+-- the flags of a message whose packages take so many bytes: those that a record keeps, and flag 7 where there are packages
+abbrev pub flagsWith : ℕ → ℕ → ℕ
+flagsWith flags payload = recordBits flags + elim (eqb payload 0) [ true ↦ 0 | false ↦ 128 ]
+
+-- the header of a message with this record, an option run of so many bytes, and packages of so many
+abbrev pub headerBy : Record → ℕ → ℕ → List ℕ
+headerBy r run payload = headerOf (pad run / 4) (flagsWith (r .flags) payload) (r .id .0) (r .sequence) (24 + pad run + payload) (r .seconds) (r .nanos)
 
 -- the message of a draft whose run is cut so
 unfoldable pub messageOf : Draft → Outcome (List (List ℕ)) → List ℕ

@@ -43,7 +43,7 @@ draft f i q s n o p = record { flags = f; id = i; sequence = q; seconds = s; nan
 abbrev pub withBuffer : {A : Type 0} → (A → ℕ × List ℕ) → A × List ℕ → ℕ × List ℕ × List ℕ
 withBuffer values (a, buffer) = (values a .0, values a .1, buffer)
 
--- a message written or cleaned: bytes
+-- a message written or cleaned, and a recording purged: bytes
 abbrev pub writtenValues : Written → ℕ × List ℕ
 writtenValues w = (w .number, w .place ∷ w .bytes ∷ [])
 

@@ -25,6 +25,7 @@ ghost use Rattle.rules.specs.Clean.{cleaner};
 ghost use Rattle.rules.specs.Sheet.{sheetRows};
 ghost use Rattle.rules.specs.Copy.{measurement, copy};
 ghost use Rattle.rules.specs.Burst.{randomizer, opener};
+ghost use Rattle.purge.specs.Purge as purging;
 ghost use Rattle.refusal.specs.Numbers.{numberOf};
 ghost use Rattle.sheet.specs.Rows.{rowIn};
 ghost use Rattle.compose.specs.Told.{numbers};
@@ -116,7 +117,7 @@ pub extern "C" fn hibernaxo_check(recording: &[u8], values: &mut [u64; 3]) -> u3
     }
 }
 
-// What the writer and the cleaner answered.
+// What the writer, the cleaner and the purge answered.
 fn put_written(a: Written, values: &mut [u64; 2]) -> u32
     ensures { λ r. ⌜ (r, now (values .exit)) ≡ writtenValues (numbers a) ⌝ }
 {
@@ -164,6 +165,15 @@ pub extern "C" fn hibernaxo_clean(bytes: &[u8], out: &mut [u8], values: &mut [u6
     ensures { λ r. ⌜ (r, now (values .exit), now (out .exit)) ≡ writtenTold (cleaner (now (bytes .entry)) (now (out .entry))) ⌝ }
 {
     let a = compose::clean(bytes, out);
+    put_written(a, values)
+}
+
+// A recording purged in its buffer: bytes in use.
+#[no_mangle]
+pub extern "C" fn hibernaxo_purge(buffer: &mut [u8], sheet: &[u8], values: &mut [u64; 2]) -> u32
+    ensures { λ r. ⌜ (r, now (values .exit), now (buffer .exit)) ≡ writtenTold (purging.purge (now (buffer .entry)) (now (sheet .entry))) ⌝ }
+{
+    let a = purge::purge(buffer, sheet);
     put_written(a, values)
 }
 

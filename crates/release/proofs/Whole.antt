@@ -57,11 +57,13 @@ module _ (sheetBytes : List ℕ) (q : SheetRead) (e : sheet.told q ≡ sheet.ans
       s ∙ ap good (sym (first-rows l (q .rows) (q .count) _ a b))
 
   -- and one that was refused
+  pub sheet-bad : (f : Refusal) → q .answer ≡ Sheet.Refused f → rows.sheet sheetBytes ≡ bad (numberOf (f .why)) (f .place)
+  unfolding sheetRows
+  sheet-bad f k = ⊎-elim (λ b. b) (λ w. absurd (good≢bad (sym (w .2)))) (refused-step _ _ (sym (outcome-is (Sheet.Refused f) k)))
+
   pub sheet-refused : (recordingBytes : List ℕ) (f : Refusal) → q .answer ≡ Sheet.Refused f → numbers (answer.Refused f) ≡ measurement recordingBytes sheetBytes
-  unfolding sheetRows measurement releasedOf reported
-  sheet-refused recordingBytes f k =
-      let b : rows.sheet sheetBytes ≡ bad (numberOf (f .why)) (f .place) = ⊎-elim (λ b. b) (λ w. absurd (good≢bad (sym (w .2)))) (refused-step _ _ (sym (outcome-is (Sheet.Refused f) k))) in
-      sym (ap reported (stop _ _ b))
+  unfolding measurement releasedOf reported
+  sheet-refused recordingBytes f k = sym (ap reported (stop _ _ (sheet-bad f k)))
 
 -- measuring leaves the buffer, and writing is the copy
 pub measuring : {alone : Bool} (recordingBytes sheetBytes buffer : List ℕ) (a : Answer) → alone ≡ true → numbers a ≡ measurement recordingBytes sheetBytes

@@ -32,7 +32,7 @@ use wire::put_word;
 use wire::put_zeros;
 
 // Whether the sheet grants package p of the message with header h.
-fn is_granted(h: Header, p: Package, rows: [Row; 32], n: usize) -> bool
+pub fn is_granted(h: Header, p: Package, rows: [Row; 32], n: usize) -> bool
     ensures { λ r. ⌜ r ≡ someGrants (take n rows) (h .id .0) (isSimulated (h .flags)) (p .id .0) (packageTime (h .seconds) (h .nanos) (p .delta)) ⌝ }
 {
     let mdid = h.id;

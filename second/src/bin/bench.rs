@@ -1,6 +1,7 @@
 //! Times the library's exports against the second program and against a plain
 //! copy of the same bytes, bursts also against a bytewise loop, and measuring a
-//! copy beside writing it. The ways take turns; medians are shown.
+//! copy beside writing it. Purging is timed beside moving the same bytes. The
+//! ways take turns; medians are shown.
 
 use second::burst::{CODEBLOCK_BYTES, MARKER_BYTES, PERIOD, SEQUENCE};
 use second::dice::Dice;
@@ -8,13 +9,15 @@ use second::exports::raw;
 use second::generate::{lay_all, DirtyMessage, DirtyPackage};
 use second::orders::pack_sheet;
 use second::sheet::Row;
-use second::{burst, copy, parse, render};
+use second::{burst, copy, parse, purge, render};
 use std::hint::black_box;
 use std::process::ExitCode;
 use std::time::Instant;
 
 const SIZES: [usize; 3] = [4_096, 16_384, 65_536];
 const CODEBLOCKS: [usize; 4] = [1, 5, 21, 80];
+/// A plain move goes down by so many bytes.
+const MOVED_BY: usize = 64;
 /// One sample takes about so many nanoseconds.
 const SAMPLE: f64 = 40_000.0;
 
@@ -44,7 +47,7 @@ enum Kind {
 }
 
 /// The medians of one scene, in nanoseconds: the export, the second program,
-/// the plain copy.
+/// the plain copy or move.
 struct Line {
     name: String,
     bytes: usize,
@@ -123,6 +126,16 @@ fn main() -> ExitCode {
     for codeblocks in CODEBLOCKS {
         show_burst(&time_randomize(codeblocks, repetitions));
     }
+    println!("\npurging half of the packages; making the buffer anew is taken out of all ways");
+    println!(
+        "{:<44}{:>7}{:>11}{:>11}{:>11}{:>15}{:>15}",
+        "", "bytes", "export ns", "second ns", "memmove ns", "export/second", "export/memmove"
+    );
+    for shape in SHAPES {
+        for size in SIZES {
+            show(&time_purge(shape, size, repetitions));
+        }
+    }
     println!("\nmeasuring a copy beside writing it");
     println!(
         "{:<44}{:>7}{:>11}{:>11}{:>19}{:>19}",
@@ -139,13 +152,13 @@ fn main() -> ExitCode {
 }
 
 fn show(line: &Line) {
-    let [export, second, memcpy] = line.medians;
+    let [export, second, plain] = line.medians;
     println!(
-        "{:<44}{:>7}{export:>11.0}{second:>11.0}{memcpy:>11.0}{:>15.2}{:>15.2}",
+        "{:<44}{:>7}{export:>11.0}{second:>11.0}{plain:>11.0}{:>15.2}{:>15.2}",
         line.name,
         line.bytes,
         export / second,
-        export / memcpy
+        export / plain
     );
 }
 
@@ -452,6 +465,64 @@ fn time_beside(shape: Shape, kind: Kind, size: usize, repetitions: usize) -> Bes
         bytes: length,
         measuring: [measure, own_measure],
         writing: [write, own_write],
+    }
+}
+
+/// Purges with the export, and gives the bytes in use.
+fn export_purge(buffer: &mut [u8], sheet: &[u8]) -> usize {
+    let (buffer, sheet) = (black_box(buffer), black_box(sheet));
+    let mut values = [0; 2];
+    // The pointers and the lengths are those of the buffer and the sheet.
+    let number = unsafe {
+        raw::hibernaxo_purge(
+            buffer.as_mut_ptr(),
+            buffer.len(),
+            sheet.as_ptr(),
+            sheet.len(),
+            values.as_mut_ptr(),
+        )
+    };
+    assert_eq!(black_box(number), 0);
+    values[1] as usize
+}
+
+/// Purges with the second program, and gives the bytes in use.
+fn second_purge(buffer: &mut [u8], sheet: &[u8]) -> usize {
+    purge::purge(black_box(buffer), black_box(sheet)).expect("the recording is good")
+}
+
+/// Times purging every second package. A purge changes its buffer, so each way
+/// begins with a fresh copy of the recording, and what that takes by itself is
+/// taken out again.
+fn time_purge(shape: Shape, size: usize, repetitions: usize) -> Line {
+    let recording = recording(shape, Kind::OneId, size);
+    let sheet = sheet(Kind::OneId);
+    let length = recording.len();
+    let mut outs = [(); 3].map(|()| recording.clone());
+    let [export_out, second_out, target] = &mut outs;
+    let mut moved = vec![0; MOVED_BY + length];
+    let used = export_purge(export_out, &sheet);
+    assert_eq!(used, second_purge(second_out, &sheet));
+    assert!(export_out == second_out && 0 < used && used < length, "the two purges differ");
+    let mut export = || {
+        memcpy(&recording, export_out);
+        export_purge(export_out, &sheet);
+    };
+    let mut second = || {
+        memcpy(&recording, second_out);
+        second_purge(second_out, &sheet);
+    };
+    let mut memmove = || {
+        memcpy(&recording, &mut moved[MOVED_BY..]);
+        black_box(&mut moved).copy_within(MOVED_BY.., 0);
+    };
+    let mut fresh = || memcpy(&recording, target);
+    let [export, second, memmove, fresh] =
+        medians(repetitions, [&mut export, &mut second, &mut memmove, &mut fresh]);
+    Line {
+        name: format!("purge half, {}", shape_name(shape)),
+        bytes: length,
+        medians: [export - fresh, second - fresh, memmove - fresh],
     }
 }
 
