@@ -3,13 +3,14 @@
 //! copy beside writing it. Purging is timed beside moving the same bytes. The
 //! ways take turns; medians are shown.
 
+use second::answers::{self, Answer};
 use second::burst::{CODEBLOCK_BYTES, MARKER_BYTES, PERIOD, SEQUENCE};
 use second::dice::Dice;
 use second::exports::raw;
 use second::generate::{lay_all, DirtyMessage, DirtyPackage};
 use second::orders::pack_sheet;
 use second::sheet::Row;
-use second::{burst, copy, parse, purge, render};
+use second::{copy, parse, purge, render};
 use std::hint::black_box;
 use std::process::ExitCode;
 use std::time::Instant;
@@ -553,14 +554,16 @@ fn time_open_burst(codeblocks: usize, repetitions: usize) -> BurstLine {
         let number = unsafe {
             raw::hibernaxo_open_burst(bytes.as_mut_ptr(), bytes.len(), values.as_mut_ptr())
         };
-        assert_eq!(black_box((number, values)), (0, [0, codeblocks as u64]));
+        Answer { number, values }
     };
-    let bytewise = |bytes: &mut [u8]| bytewise(&mut bytes[MARKER_BYTES.len()..]);
-    let second = |bytes: &mut [u8]| {
-        assert_eq!(black_box(burst::open_burst(bytes)), Ok(codeblocks));
+    let good = Answer { number: 0, values: [0, codeblocks as u64] };
+    let bytewise = |bytes: &mut [u8]| {
+        bytewise(&mut bytes[MARKER_BYTES.len()..]);
+        good
     };
+    let ways: [Randomizing<2>; 3] = [&export, &bytewise, &answers::open_burst];
     let name = burst_name("open burst", codeblocks);
-    time_burst(name, &burst_of(codeblocks), export, bytewise, second, repetitions)
+    time_burst(name, &burst_of(codeblocks), good, ways, repetitions)
 }
 
 /// Times randomizing the bytes of so many codeblocks.
@@ -571,38 +574,49 @@ fn time_randomize(codeblocks: usize, repetitions: usize) -> BurstLine {
         let number = unsafe {
             raw::hibernaxo_randomize(bytes.as_mut_ptr(), bytes.len(), values.as_mut_ptr())
         };
-        assert_eq!(black_box((number, values)), (0, [0]));
+        Answer { number, values }
     };
-    let second = |bytes: &mut [u8]| assert_eq!(black_box(burst::randomize(bytes)), Ok(()));
+    let good = Answer { number: 0, values: [0] };
+    let bytewise = |bytes: &mut [u8]| {
+        bytewise(bytes);
+        good
+    };
+    let ways: [Randomizing<1>; 3] = [&export, &bytewise, &answers::randomize];
     let name = burst_name("randomize", codeblocks);
     let bytes = &burst_of(codeblocks)[MARKER_BYTES.len()..];
-    time_burst(name, bytes, export, bytewise, second, repetitions)
+    time_burst(name, bytes, good, ways, repetitions)
 }
 
+/// A way to randomize the bytes of a buffer, and its answer in the export's form.
+type Randomizing<'a, const N: usize> = &'a dyn Fn(&mut [u8]) -> Answer<N>;
+
 /// Times three ways to randomize the same bytes, and the plain copy. Twice gives
-/// the bytes back, so a buffer is randomized again and again.
-fn time_burst(
+/// the bytes back, so a buffer is randomized again and again. Each way hands out
+/// its answer while it is timed; what it did and said is compared before.
+fn time_burst<const N: usize>(
     name: String,
     bytes: &[u8],
-    export: impl Fn(&mut [u8]),
-    bytewise: impl Fn(&mut [u8]),
-    second: impl Fn(&mut [u8]),
+    good: Answer<N>,
+    ways: [Randomizing<N>; 3],
     repetitions: usize,
 ) -> BurstLine {
-    let mut outs = [(); 4].map(|()| bytes.to_vec());
-    let [export_out, bytewise_out, second_out, target] = &mut outs;
+    let mut outs = [(); 3].map(|()| bytes.to_vec());
     for turn in 0..2 {
-        export(export_out);
-        bytewise(bytewise_out);
-        second(second_out);
-        let equal = export_out == bytewise_out && export_out == second_out;
-        assert!(equal, "the ways differ");
-        assert!((export_out == bytes) == (turn == 1), "twice does not give the bytes back");
+        for (way, out) in ways.iter().zip(&mut outs) {
+            assert_eq!(way(out), good);
+        }
+        assert!(outs[0] == outs[1] && outs[0] == outs[2], "the ways differ");
+        assert!((outs[0] == bytes) == (turn == 1), "twice does not give the bytes back");
     }
-    let mut export = || export(black_box(export_out));
-    let mut bytewise = || bytewise(black_box(bytewise_out));
-    let mut second = || second(black_box(second_out));
-    let mut plain = || memcpy(bytes, target);
+    let [export_out, bytewise_out, second_out] = &mut outs;
+    let randomize = |way: usize, out: &mut [u8]| {
+        black_box(ways[way](black_box(out)));
+    };
+    let mut export = || randomize(0, export_out);
+    let mut bytewise = || randomize(1, bytewise_out);
+    let mut second = || randomize(2, second_out);
+    let mut target = vec![0; bytes.len()];
+    let mut plain = || memcpy(bytes, &mut target);
     let medians = medians(repetitions, [&mut export, &mut bytewise, &mut second, &mut plain]);
     BurstLine { name, bytes: bytes.len(), medians }
 }
