@@ -1,5 +1,5 @@
-/* hibernaxo: reading, checking, writing and cleaning network recordings, order sheets, the release copy, the purge and
- * bursts.
+/* hibernaxo: reading, checking, writing and cleaning network recordings, order sheets, the release copy, the purge,
+ * bursts and ids as a line of text.
  *
  * Each function returns a refusal number, HIBERNAXO_OK for success, and stores its values on every call. values[0] is
  * always the place of the refusal, a byte offset in the input named, or what the number says below; on success it is 0.
@@ -39,6 +39,7 @@ enum hibernaxo_refusal {
     HIBERNAXO_ROOM = 13,     /* the output buffer is too short: the bytes needed */
     HIBERNAXO_MARKER = 14,   /* fewer than 8 bytes, or another marker: 0 */
     HIBERNAXO_BLOCKS = 15,   /* not 1 to 80 whole codeblocks: the burst's length */
+    HIBERNAXO_TEXT = 16,     /* the first byte that breaks the form of a line of ids, or the line's end; then the first digit of an item against the rules; in writing, the range's index */
     HIBERNAXO_COUNT = 17     /* option 0x87 says another number than that of the packages: the message; 0 in the writer */
 };
 
@@ -54,10 +55,16 @@ enum hibernaxo_refusal {
 #define HIBERNAXO_PURGE_VALUES 2
 #define HIBERNAXO_RANDOMIZE_VALUES 1
 #define HIBERNAXO_OPEN_BURST_VALUES 2
+#define HIBERNAXO_READ_IDS_VALUES 66
+#define HIBERNAXO_WRITE_IDS_VALUES 2
 
 /* The most rows of a sheet, and how many values each row has. */
 #define HIBERNAXO_ROWS 32
 #define HIBERNAXO_ROW_VALUES 9
+
+/* The most ranges of a line of ids, and how many numbers are the ends of so many. */
+#define HIBERNAXO_ID_RANGES 32
+#define HIBERNAXO_WRITE_IDS_ENDS 64
 
 /* Reads the header of the message at the start of bytes (refusals 12 and 1 to 7; its packages are not counted).
  * values: [1] the option word count W, [2] flag bits 7 to 0, [3] message id, [4] sequence number, [5] length,
@@ -114,6 +121,16 @@ uint32_t hibernaxo_randomize(uint8_t *buf, size_t buf_length, uint64_t values[HI
 
 /* Opens a burst: its codeblocks are randomized in buf (refusals 12, 14 and 15). values: [1] codeblocks. */
 uint32_t hibernaxo_open_burst(uint8_t *buf, size_t buf_length, uint64_t values[HIBERNAXO_OPEN_BURST_VALUES]);
+
+/* Reads a line of ids (refusals 12 and 16): ids and ranges of ids with commas between, as 7-9,12, without a newline.
+ * values: [1] how many ranges it has; then from [2] on first and last of each of 32 ranges, zero behind the last. */
+uint32_t hibernaxo_read_ids(const uint8_t *line, size_t line_length, uint64_t values[HIBERNAXO_READ_IDS_VALUES]);
+
+/* Writes count ranges as a line of ids into out (refusals 16 and 13). ends has first and last of each range in turn, and
+ * whatever else behind the last: count may be any number, and above 32 it is refused. A line has at most 703 bytes.
+ * values: [1] bytes written; bytes of out behind them stay. */
+uint32_t hibernaxo_write_ids(const uint32_t ends[HIBERNAXO_WRITE_IDS_ENDS], size_t count, uint8_t *out,
+                             size_t out_length, uint64_t values[HIBERNAXO_WRITE_IDS_VALUES]);
 
 #ifdef __cplusplus
 }

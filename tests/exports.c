@@ -1,6 +1,6 @@
 /* Calls every export of include/hibernaxo.h, with good inputs and with refused ones. Whatever a call is lent has exactly the size that the
  * header announces and lies against a page that must not be touched, first with its end and then with its beginning; guard bytes fill the
- * other side, and inputs cannot be written. What comes back is typed from document 01: M, R, P1 to P12 and the table of refusals.
+ * other side, and inputs cannot be written. What comes back is typed from document 01, M, R, P1 to P12 and the table of refusals, and from document 02.
  *
  * Prints the name of each export that has given an answer and a refusal, one to a line; tests/exports asks that these are all of the header.
  * It is C11 and C++17. */
@@ -540,9 +540,115 @@ static void bursts(void)
     KEPT(buf);
 }
 
+/* An input of text, and a buffer that begins with a text. */
+static struct lent line_of(const char *text)
+{
+    struct lent memory = lend(strlen(text), 0);
+    memcpy(memory.bytes, text, memory.length);
+    return shut(memory);
+}
+
+static void line_written(int at, struct lent out, const char *text)
+{
+    if (strlen(text) > out.length || memcmp(out.bytes, text, strlen(text)) != 0)
+        fail(at, "another line is written");
+    unwritten(at, out, strlen(text));
+}
+
+static_assert(2 + 2 * HIBERNAXO_ID_RANGES == HIBERNAXO_READ_IDS_VALUES, "place, number of ranges, and the ranges");
+static_assert(2 * HIBERNAXO_ID_RANGES == HIBERNAXO_WRITE_IDS_ENDS, "first and last of each range");
+
+static void reading_ids(void)
+{
+    uint64_t wanted[HIBERNAXO_READ_IDS_VALUES] = {0, HIBERNAXO_ID_RANGES};
+    char many[2 * HIBERNAXO_ID_RANGES + 4] = "";
+    struct lent line = line_of("7-9,12");
+    CALL(hibernaxo_read_ids, line.bytes, line.length, values(HIBERNAXO_READ_IDS_VALUES));
+    EXPECT(HIBERNAXO_OK, 0, 2, 7, 9, 12, 12);
+    line = line_of("0-4294967295,0000000007,8-8");
+    CALL(hibernaxo_read_ids, line.bytes, line.length, values(HIBERNAXO_READ_IDS_VALUES));
+    EXPECT(HIBERNAXO_OK, 0, 3, 0, 4294967295, 7, 7, 8, 8);
+    /* as many items as a line may have, and one more */
+    for (size_t k = 0; k < HIBERNAXO_ID_RANGES; k++) {
+        strcat(many, "5,");
+        wanted[2 + 2 * k] = wanted[3 + 2 * k] = 5;
+    }
+    line = line_of(many);
+    CALL(hibernaxo_read_ids, line.bytes, line.length - 1, values(HIBERNAXO_READ_IDS_VALUES));
+    expect(__LINE__, HIBERNAXO_OK, wanted, HIBERNAXO_READ_IDS_VALUES);
+    line = line_of(strcat(many, "5"));
+    CALL(hibernaxo_read_ids, line.bytes, line.length, values(HIBERNAXO_READ_IDS_VALUES));
+    EXPECT(HIBERNAXO_TEXT, 64);
+    /* a byte that breaks the form, and lines that stop too soon */
+    line = line_of("7-9, 12");
+    CALL(hibernaxo_read_ids, line.bytes, line.length, values(HIBERNAXO_READ_IDS_VALUES));
+    EXPECT(HIBERNAXO_TEXT, 4);
+    line = line_of("12345678901");
+    CALL(hibernaxo_read_ids, line.bytes, line.length, values(HIBERNAXO_READ_IDS_VALUES));
+    EXPECT(HIBERNAXO_TEXT, 10);
+    line = line_of("7-9,");
+    CALL(hibernaxo_read_ids, line.bytes, line.length, values(HIBERNAXO_READ_IDS_VALUES));
+    EXPECT(HIBERNAXO_TEXT, 4);
+    line = line_of("");
+    CALL(hibernaxo_read_ids, line.bytes, line.length, values(HIBERNAXO_READ_IDS_VALUES));
+    EXPECT(HIBERNAXO_TEXT, 0);
+    /* an item with an id too large, and an inverted one */
+    line = line_of("5,3-4294967296");
+    CALL(hibernaxo_read_ids, line.bytes, line.length, values(HIBERNAXO_READ_IDS_VALUES));
+    EXPECT(HIBERNAXO_TEXT, 2);
+    line = line_of("5,9-7");
+    CALL(hibernaxo_read_ids, line.bytes, line.length, values(HIBERNAXO_READ_IDS_VALUES));
+    EXPECT(HIBERNAXO_TEXT, 2);
+    line = zeros(LARGEST + 1);
+    CALL(hibernaxo_read_ids, line.bytes, line.length, values(HIBERNAXO_READ_IDS_VALUES));
+    EXPECT(HIBERNAXO_LARGE, LARGEST);
+}
+
+/* 32 ranges, which begin with two given ones and are 5 to 5 from then on. */
+static const uint32_t *ranges_of(uint32_t a, uint32_t b, uint32_t c, uint32_t d)
+{
+    struct lent memory = lend(4 * HIBERNAXO_WRITE_IDS_ENDS, 0);
+    uint32_t *ends = (uint32_t *)(void *)memory.bytes;
+    for (size_t k = 0; k < HIBERNAXO_WRITE_IDS_ENDS; k++)
+        ends[k] = 5;
+    ends[0] = a, ends[1] = b, ends[2] = c, ends[3] = d;
+    return (const uint32_t *)(const void *)shut(memory).bytes;
+}
+
+static void writing_ids(void)
+{
+    struct lent out = buffer(8);
+    const uint32_t *ends = ranges_of(7, 9, 12, 12);
+    CALL(hibernaxo_write_ids, ends, 2, out.bytes, out.length, values(HIBERNAXO_WRITE_IDS_VALUES));
+    EXPECT(HIBERNAXO_OK, 0, 6);
+    line_written(__LINE__, out, "7-9,12");
+    out = buffer(5);
+    CALL(hibernaxo_write_ids, ends, 2, out.bytes, out.length, values(HIBERNAXO_WRITE_IDS_VALUES));
+    EXPECT(HIBERNAXO_ROOM, 6);
+    KEPT(out);
+    out = buffer(0);
+    CALL(hibernaxo_write_ids, ends, 32, out.bytes, out.length, values(HIBERNAXO_WRITE_IDS_VALUES));
+    EXPECT(HIBERNAXO_ROOM, 66);
+    out = buffer(703);
+    CALL(hibernaxo_write_ids, ends, 0, out.bytes, out.length, values(HIBERNAXO_WRITE_IDS_VALUES));
+    EXPECT(HIBERNAXO_TEXT, 0);
+    CALL(hibernaxo_write_ids, ends, 33, out.bytes, out.length, values(HIBERNAXO_WRITE_IDS_VALUES));
+    EXPECT(HIBERNAXO_TEXT, 32);
+    CALL(hibernaxo_write_ids, ends, SIZE_MAX, out.bytes, out.length, values(HIBERNAXO_WRITE_IDS_VALUES));
+    EXPECT(HIBERNAXO_TEXT, 32);
+    KEPT(out);
+    ends = ranges_of(0, 4294967295, 3, 2);
+    CALL(hibernaxo_write_ids, ends, 33, out.bytes, out.length, values(HIBERNAXO_WRITE_IDS_VALUES));
+    EXPECT(HIBERNAXO_TEXT, 1);
+    KEPT(out);
+    CALL(hibernaxo_write_ids, ends, 1, out.bytes, out.length, values(HIBERNAXO_WRITE_IDS_VALUES));
+    EXPECT(HIBERNAXO_OK, 0, 12);
+    line_written(__LINE__, out, "0-4294967295");
+}
+
 int main(void)
 {
-    static void (*const groups[])(void) = {headers, packages, checks, writing, cleaning, sheets, copies, purging, randomizing, bursts};
+    static void (*const groups[])(void) = {headers, packages, checks, writing, cleaning, sheets, copies, purging, randomizing, bursts, reading_ids, writing_ids};
     signal(SIGSEGV, touched);
     signal(SIGBUS, touched);
     for (size_t k = 0; k < sizeof groups / sizeof *groups; k++) {

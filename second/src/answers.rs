@@ -2,6 +2,7 @@
 //! refusal number, and values that begin with the place.
 
 use crate::copy::Copied;
+use crate::ids::{self, IdRange, MOST_RANGES};
 use crate::refusal::Refusal;
 use crate::render::Draft;
 use crate::{burst, copy, parse, purge, render, sheet};
@@ -153,6 +154,30 @@ pub fn randomize(buffer: &mut [u8]) -> Answer<1> {
 pub fn open_burst(buffer: &mut [u8]) -> Answer<2> {
     match burst::open_burst(buffer) {
         Ok(codeblocks) => Answer::success(&[codeblocks]),
+        Err(refusal) => Answer::refused(refusal),
+    }
+}
+
+pub fn read_ids(line: &[u8]) -> Answer<66> {
+    match ids::read_ids(line) {
+        Ok(ranges) => {
+            let ends = ranges.iter().flat_map(|range| [range.first as usize, range.last as usize]);
+            let told: Vec<usize> = [ranges.len()].into_iter().chain(ends).collect();
+            Answer::success(&told)
+        }
+        Err(refusal) => Answer::refused(refusal),
+    }
+}
+
+/// The first `count` of these ranges are written. The 33rd is refused, whatever
+/// it may be.
+pub fn write_ids(ranges: &[IdRange; MOST_RANGES], count: usize, out: &mut [u8]) -> Answer<2> {
+    let mut counted: Vec<IdRange> = ranges.iter().take(count).copied().collect();
+    if count > MOST_RANGES {
+        counted.push(IdRange::default());
+    }
+    match ids::write_ids(&counted, out) {
+        Ok(bytes) => Answer::success(&[bytes]),
         Err(refusal) => Answer::refused(refusal),
     }
 }

@@ -7,13 +7,15 @@ use crate::drafts::{bad_draft, draft_of, good_draft, OwnDraft};
 use crate::generate::*;
 use crate::judge::Judge;
 use crate::lent::room_for;
+use crate::lines::{any_line, any_ranges, Handed};
 use crate::orders::{bad_sheet, everything, pack_sheet, row_around, rows, targets, Target};
 use crate::pairs::Pair;
 use crate::refusal::{MOST_BYTES, ROOM};
 use crate::rests::Scene;
 use crate::seams::Seam;
 use crate::{
-    copy, demand, in_turn, measuring, purging, releases, render, round_trips, side_by_side,
+    copy, demand, ids, in_turn, measuring, purging, releases, render, round_trips, side_by_side,
+    typed_ids,
 };
 
 type Case = fn(&mut Judge, &mut Dice);
@@ -38,7 +40,8 @@ const KINDS: [(u64, Case); 15] = [
 ];
 
 /// What is tried beside these cases: one case beside each so many of them.
-const BESIDE: [(u64, Case); 3] = [(7, pair_case), (8, purge_case), (12, purging_case)];
+const BESIDE: [(u64, Case); 5] =
+    [(7, pair_case), (8, purge_case), (12, purging_case), (5, ids_case), (9, typed_ids_case)];
 
 /// Runs the case with this number, and what is tried beside it.
 pub fn run(judge: &mut Judge, seed: u64, case: u64) {
@@ -313,6 +316,22 @@ fn purging_case(judge: &mut Judge, dice: &mut Dice) {
     judge.kind("what stays of a purge, and what goes");
     let scene = Scene::new(dice);
     purging::purging(judge, dice, &scene);
+}
+
+fn ids_case(judge: &mut Judge, dice: &mut Dice) {
+    judge.kind("ids");
+    let line = any_line(dice);
+    side_by_side::read_ids(judge, dice, &line);
+    let ranges = any_ranges(dice);
+    let room = needed(ids::write_ids(&ranges, &mut []));
+    let room = room_for(dice, room);
+    let handed = Handed::new(dice, &ranges);
+    side_by_side::write_ids(judge, dice, &handed, room);
+}
+
+fn typed_ids_case(judge: &mut Judge, dice: &mut Dice) {
+    judge.kind("ids as the desk types them");
+    typed_ids::typed_ids(judge, dice);
 }
 
 fn randomize_case(judge: &mut Judge, dice: &mut Dice) {

@@ -2,7 +2,8 @@
 //!
 //! A wrapper takes every slice as one that may be written, so that a library
 //! that writes to its input is caught and not undefined. The values are filled
-//! with junk before a call, and stand between two words that must stay.
+//! with junk before a call, and stand between two words that must stay; so do
+//! words that are lent.
 
 use crate::answers::{Answer, Given};
 use crate::render::Draft;
@@ -60,6 +61,14 @@ pub mod raw {
         ) -> u32;
         pub fn hibernaxo_randomize(buf: *mut u8, len: usize, values: *mut u64) -> u32;
         pub fn hibernaxo_open_burst(buf: *mut u8, len: usize, values: *mut u64) -> u32;
+        pub fn hibernaxo_read_ids(line: *const u8, len: usize, values: *mut u64) -> u32;
+        pub fn hibernaxo_write_ids(
+            ends: *const u32,
+            count: usize,
+            out: *mut u8,
+            out_len: usize,
+            values: *mut u64,
+        ) -> u32;
     }
 }
 
@@ -82,6 +91,32 @@ fn call<const N: usize>(export: impl FnOnce(*mut u64) -> u32) -> Given<N> {
         answer: Answer { number, values: values.values },
         strayed: values.before != JUNK || values.behind != JUNK,
     }
+}
+
+#[repr(C)]
+struct Words<const N: usize> {
+    before: u32,
+    words: [u32; N],
+    behind: u32,
+}
+
+/// Lends these bytes as words, which have another alignment.
+fn with_words<const W: usize, const N: usize>(
+    bytes: &mut [u8],
+    export: impl FnOnce(*mut u32) -> Given<N>,
+) -> Given<N> {
+    let junk = JUNK as u32;
+    let mut words = Words { before: junk, words: [junk; W], behind: junk };
+    for (word, four) in words.words.iter_mut().zip(bytes.as_chunks().0) {
+        *word = u32::from_ne_bytes(*four);
+    }
+    let whole: *mut Words<W> = &mut words;
+    let mut given = export(whole.cast::<u32>().wrapping_add(1));
+    for (word, four) in words.words.iter().zip(bytes.as_chunks_mut().0) {
+        *four = word.to_ne_bytes();
+    }
+    given.strayed |= words.before != junk || words.behind != junk;
+    given
 }
 
 // In each call below the pointers and lengths are those of a live slice, and
@@ -173,4 +208,17 @@ pub fn randomize(buffer: &mut [u8]) -> Given<1> {
 
 pub fn open_burst(buffer: &mut [u8]) -> Given<2> {
     call(|values| unsafe { raw::hibernaxo_open_burst(buffer.as_mut_ptr(), buffer.len(), values) })
+}
+
+pub fn read_ids(line: &mut [u8]) -> Given<66> {
+    call(|values| unsafe { raw::hibernaxo_read_ids(line.as_mut_ptr(), line.len(), values) })
+}
+
+/// The ends are 64 words, first and last of each range in turn.
+pub fn write_ids(ends: &mut [u8], count: usize, out: &mut [u8]) -> Given<2> {
+    with_words::<64, 2>(ends, |ends| {
+        call(|values| unsafe {
+            raw::hibernaxo_write_ids(ends, count, out.as_mut_ptr(), out.len(), values)
+        })
+    })
 }

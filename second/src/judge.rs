@@ -6,7 +6,7 @@ use crate::refusal::{NAMES, NUMBERS};
 use std::fmt::Write;
 
 /// The exports, and the refusal numbers that each of them can give.
-pub const EXPORTS: [(&str, &[u32]); 11] = [
+pub const EXPORTS: [(&str, &[u32]); 13] = [
     ("header", &[1, 2, 3, 4, 5, 6, 7, 12]),
     ("package", &[10, 12]),
     ("check", &[1, 2, 3, 4, 5, 6, 7, 8, 9, 10, 12, 17]),
@@ -18,6 +18,8 @@ pub const EXPORTS: [(&str, &[u32]); 11] = [
     ("purge", &[1, 2, 3, 4, 5, 6, 7, 8, 9, 10, 11, 12, 17]),
     ("randomize", &[12]),
     ("open_burst", &[12, 14, 15]),
+    ("read_ids", &[12, 16]),
+    ("write_ids", &[13, 16]),
 ];
 
 /// So many differences are printed; the others are only counted.
@@ -199,7 +201,8 @@ fn tell_answers<const N: usize>(told: &mut String, expected: Answer<N>, given: G
         writeln!(told, "  values[{index}]: expected {wanted}, given {got}  <--").unwrap();
     }
     if given.strayed {
-        writeln!(told, "  a word beside the values was written  <--").unwrap();
+        writeln!(told, "  a word beside the values, or beside words lent, was written  <--")
+            .unwrap();
     }
 }
 

@@ -7,6 +7,7 @@
 // The rules, one module for each part of the paper.
 pub mod burst;
 pub mod copy;
+pub mod ids;
 pub mod paper;
 pub mod parse;
 pub mod purge;
@@ -20,6 +21,7 @@ pub mod damage;
 pub mod dice;
 pub mod drafts;
 pub mod generate;
+pub mod lines;
 pub mod orders;
 pub mod pairs;
 pub mod rests;
@@ -50,6 +52,8 @@ pub mod releases;
 pub mod round_trips;
 #[cfg(feature = "exports")]
 pub mod side_by_side;
+#[cfg(feature = "exports")]
+pub mod typed_ids;
 
 #[cfg(test)]
 mod tests;

@@ -1,6 +1,8 @@
 //! The limits: fixed inputs at and just above each limit of the paper, and the
 //! paper's own numbers. They are part of every run.
 
+mod ids;
+
 use crate::burst::{CODEBLOCK_BYTES, MARKER_BYTES, PERIOD};
 use crate::damage::{with_faults, FAULTS};
 use crate::demand::{changed, withheld, CHANGED, WITHHELD};
@@ -25,7 +27,7 @@ use crate::side_by_side;
 type Part = fn(&mut Limits);
 
 /// The parts in their order.
-const PARTS: [(&str, Part); 18] = [
+const PARTS: [(&str, Part); 19] = [
     ("the paper's numbers", paper_numbers),
     ("sizes", sizes),
     ("faults", faults),
@@ -42,6 +44,7 @@ const PARTS: [(&str, Part); 18] = [
     ("sequence numbers", sequence_numbers),
     ("purges", purges),
     ("bursts", bursts),
+    ("ids", ids::ids),
     ("demand 3", demand_3),
     ("round trips", round_trips),
 ];

@@ -15,6 +15,7 @@ pub const LARGE: u32 = 12;
 pub const ROOM: u32 = 13;
 pub const MARKER: u32 = 14;
 pub const BLOCKS: u32 = 15;
+pub const TEXT: u32 = 16;
 /// In the order of checks it stands directly after PACKAGE.
 pub const COUNT: u32 = 17;
 
@@ -22,7 +23,7 @@ pub const COUNT: u32 = 17;
 pub const NUMBERS: usize = 18;
 
 /// The refusal numbers and their names.
-pub const NAMES: [(u32, &str); 16] = [
+pub const NAMES: [(u32, &str); 17] = [
     (SHORT, "SHORT"),
     (VERSION, "VERSION"),
     (TYPE, "TYPE"),
@@ -38,6 +39,7 @@ pub const NAMES: [(u32, &str); 16] = [
     (ROOM, "ROOM"),
     (MARKER, "MARKER"),
     (BLOCKS, "BLOCKS"),
+    (TEXT, "TEXT"),
     (COUNT, "COUNT"),
 ];
 

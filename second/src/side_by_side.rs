@@ -8,6 +8,7 @@ use crate::drafts::OwnDraft;
 use crate::exports;
 use crate::judge::Judge;
 use crate::lent::Lent;
+use crate::lines::Handed;
 use crate::measuring;
 use crate::render::Draft;
 
@@ -23,6 +24,8 @@ const COPY_WRITE: usize = 7;
 const PURGE: usize = 8;
 const RANDOMIZE: usize = 9;
 const OPEN_BURST: usize = 10;
+const READ_IDS: usize = 11;
+const WRITE_IDS: usize = 12;
 
 pub fn header(judge: &mut Judge, dice: &mut Dice, bytes: &[u8]) -> Answer<10> {
     let mut input = Lent::new(dice, bytes);
@@ -175,6 +178,29 @@ pub fn open_burst(judge: &mut Judge, dice: &mut Dice, bytes: &[u8]) -> (Answer<2
     let expected = answers::open_burst(buffer.expected());
     judge.settle(OPEN_BURST, &[], expected, given, &[("burst", &buffer)]);
     (given.answer, buffer.content().to_vec())
+}
+
+pub fn read_ids(judge: &mut Judge, dice: &mut Dice, line: &[u8]) -> Answer<66> {
+    let mut input = Lent::new(dice, line);
+    let given = exports::read_ids(input.lend());
+    let expected = answers::read_ids(line);
+    judge.settle(READ_IDS, &[], expected, given, &[("line", &input)]);
+    given.answer
+}
+
+pub fn write_ids(
+    judge: &mut Judge,
+    dice: &mut Dice,
+    handed: &Handed,
+    room: usize,
+) -> (Answer<2>, Vec<u8>) {
+    let mut ends = Lent::new(dice, &handed.words());
+    let mut out = Lent::buffer(dice, room);
+    let given = exports::write_ids(ends.lend(), handed.count, out.lend());
+    let expected = answers::write_ids(&handed.ranges, handed.count, out.expected());
+    let buffers = [("ends", &ends), ("out", &out)];
+    judge.settle(WRITE_IDS, &[("count", handed.count as u64)], expected, given, &buffers);
+    (given.answer, out.content().to_vec())
 }
 
 /// Walks over the packages of a run from this place on, following the places

@@ -2,6 +2,7 @@
 //! requests have modules of their own.
 
 mod changed_rules;
+mod ids;
 mod purge;
 mod two_sheets;
 

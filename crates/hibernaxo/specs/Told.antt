@@ -1,11 +1,11 @@
 -- What each export hands back, by the rules' answer: the refusal number, which it returns; the values, the place first; and the lent buffer as it is left, where one is lent.
-use Prim.Native.Nat.{ℕ, _+_, _-_, _*_}
+use Prim.Native.Nat.{ℕ, zero, suc, _+_, _-_, _*_}
 use mathlib.Core.Bool.{Bool, true, false}
 use mathlib.Core.List.{List, [], _∷_, map}
 use mathlib.Core.Option.{Option, none, some}
-use lib.ListN.{replicate}
+use lib.ListN.{drop, replicate}
 use Rattle.rules.specs.Outcome.{Outcome, good, bad}
-use Rattle.rules.specs.Bytes.{join}
+use Rattle.rules.specs.Bytes.{at, join}
 use Rattle.rules.specs.Packages.{packageHeader}
 use Rattle.rules.specs.Message.{Head, headerBytes}
 use Rattle.rules.specs.Walk.{PackageSpot}
@@ -14,6 +14,8 @@ use Rattle.rules.specs.Writer.{Draft}
 use Rattle.rules.specs.Sheet.{Row, mostRows}
 use Rattle.rules.specs.Copy.{Answer}
 use Rattle.rules.specs.Burst.{Randomized, Opened}
+use Rattle.ids.specs.Reader.{Range, mostItems}
+use Rattle.ids.specs.declared.IdRange.{IdRange}
 
 -- the values of a refusal at place p: k zeros behind the place
 abbrev pub refusedAt : ℕ → ℕ → List ℕ
@@ -76,3 +78,16 @@ randomizedTold (a, buffer) = (a .number, a .place ∷ [], buffer)
 -- a burst opened: codeblocks
 abbrev pub openedTold : Opened × List ℕ → ℕ × List ℕ × List ℕ
 openedTold (a, buffer) = (a .number, a .place ∷ a .blocks ∷ [], buffer)
+
+-- a line of ids: how many ranges it has, and first and last of each range
+abbrev pub rangeValues : Range → List ℕ
+rangeValues r = r .first ∷ r .last ∷ []
+
+abbrev pub idsTold : Outcome (List Range × ℕ) → ℕ × List ℕ
+idsTold (bad n p) = (n, refusedAt p (1 + 2 * mostItems))
+idsTold (good (ranges, count)) = (0, 0 ∷ count ∷ join (map rangeValues ranges))
+
+-- the n ranges of which a caller hands over the ends, first and last in turn
+unfoldable pub rangesIn : ℕ → List ℕ → List IdRange
+rangesIn zero ends = []
+rangesIn (suc n) ends = record { first = at ends 0; last = at ends 1 } ∷ rangesIn n (drop 2 ends)

@@ -1,10 +1,12 @@
-// The exports for C, Rust and Python: a function for each entry point that document 01 names on the bench, over numbers, slices and
-// arrays alone. Each returns the refusal number, 0 for success, and stores place and values into a lent array on every call, the
+// The exports for C, Rust and Python: a function for each entry point that documents 01 and 02 name, over numbers, slices and arrays
+// alone. Each returns the refusal number, 0 for success, and stores place and values into a lent array on every call, the
 // place first. The definitions ..Told say what comes back; include/hibernaxo.h says it to a caller.
 use burst::Opened;
 use burst::Randomized;
 use compose::Record;
 use compose::Written;
+use ids::IdRange;
+use ids::IdsAnswer;
 use message::Checked;
 use message::HeaderRead;
 use message::Mdid;
@@ -30,7 +32,10 @@ ghost use Rattle.refusal.specs.Numbers.{numberOf};
 ghost use Rattle.sheet.specs.Rows.{rowIn};
 ghost use Rattle.compose.specs.Told.{numbers};
 ghost use Rattle.release.specs.Told as release;
-ghost use Rattle.hibernaxo.specs.Told.{headerTold, stepTold, checkTold, draft, writtenValues, writtenTold, rowValues, sheetTold, answerValues, copyTold, randomizedTold, openedTold};
+ghost use Rattle.ids.specs.Reader.{readIds};
+ghost use Rattle.ids.specs.Writer.{writeIds};
+ghost use Rattle.ids.specs.Told.{rangeIn, handedOver};
+ghost use Rattle.hibernaxo.specs.Told.{headerTold, stepTold, checkTold, draft, writtenValues, writtenTold, rowValues, sheetTold, answerValues, copyTold, randomizedTold, openedTold, rangeValues, idsTold, rangesIn};
 
 // The number of a refusal.
 fn number_in(x: Refusal) -> u32
@@ -117,7 +122,7 @@ pub extern "C" fn hibernaxo_check(recording: &[u8], values: &mut [u64; 3]) -> u3
     }
 }
 
-// What the writer, the cleaner and the purge answered.
+// What the writer, the cleaner, the purge and the writer of ids answered.
 fn put_written(a: Written, values: &mut [u64; 2]) -> u32
     ensures { λ r. ⌜ (r, now (values .exit)) ≡ writtenValues (numbers a) ⌝ }
 {
@@ -309,4 +314,79 @@ pub extern "C" fn hibernaxo_open_burst(buf: &mut [u8], values: &mut [u64; 2]) ->
             number_in(x)
         }
     }
+}
+
+// First and last of range i, behind the place and the number of ranges.
+fn put_range(values: &mut [u64; 66], i: usize, range: IdRange)
+    requires { ⌜ i < 32 ⌝ }
+    ensures { λ _. ⌜ now (values .exit) ≡ sets (now (values .entry)) (2 + 2 * i) (rangeValues (rangeIn range)) ⌝ }
+{
+    let at = 2 + 2 * i;
+    values[at] = range.first as u64;
+    values[at + 1] = range.last as u64;
+}
+
+fn put_ranges(values: &mut [u64; 66], ranges: [IdRange; 32])
+    ensures { λ _. ⌜ now (values .exit) ≡ sets (now (values .entry)) 2 (join (map rangeValues (map rangeIn ranges))) ⌝ }
+{
+    let mut i = 0;
+    while i < 32 {
+        let range = ranges[i];
+        put_range(values, i, range);
+        i += 1;
+    }
+}
+
+// A line of ids: how many ranges, and first and last of 32 ranges.
+#[no_mangle]
+pub extern "C" fn hibernaxo_read_ids(line: &[u8], values: &mut [u64; 66]) -> u32
+    ensures { λ r. ⌜ (r, now (values .exit)) ≡ idsTold (readIds (now (line .entry))) ⌝ }
+{
+    let read = ids::read_ids(line);
+    let answer = read.answer;
+    *values = [0; 66];
+    match answer {
+        IdsAnswer::Good => {
+            let ranges = read.ranges;
+            values[1] = read.count as u64;
+            put_ranges(values, ranges);
+            0
+        }
+        IdsAnswer::Refused(x) => {
+            values[0] = x.place as u64;
+            number_in(x)
+        }
+    }
+}
+
+// 32 ranges from their ends, first and last in turn.
+fn ranges_in(ends: &[u32; 64]) -> [IdRange; 32]
+    ensures { λ r. ⌜ r ≡ rangesIn 32 (now (ends .entry)) ⌝ }
+{
+    let none = IdRange { first: 0, last: 0 };
+    let mut ranges = [none; 32];
+    let mut i = 0;
+    while i < 32 {
+        ranges[i] = IdRange {
+            first: ends[2 * i],
+            last: ends[2 * i + 1],
+        };
+        i += 1;
+    }
+    ranges
+}
+
+// Ranges written as a line: bytes.
+#[no_mangle]
+pub extern "C" fn hibernaxo_write_ids(
+    ends: &[u32; 64],
+    count: usize,
+    out: &mut [u8],
+    values: &mut [u64; 2],
+) -> u32
+    ensures { λ r. ⌜ (r, now (values .exit), now (out .exit)) ≡ writtenTold (writeIds (handedOver count (rangesIn 32 (now (ends .entry)))) (now (out .entry))) ⌝ }
+{
+    let ranges = ranges_in(ends);
+    let a = ids::write_ids(ranges, count, out);
+    put_written(a, values)
 }

@@ -8,12 +8,12 @@ use Rattle.rules.specs.Outcome.{Outcome, bad}
 use Rattle.rules.specs.Claims.{TellsApart}
 use Rattle.refusal.specs.Numbers.{numberOf, refused}
 use Rattle.refusal.specs.declared.Why.{Why}
-use Rattle.refusal.specs.declared.Why.the-variants.{Short, Version, Kind, Length, Cut, Time, Option, Fragment, Standard, Package, Row, Large, Room, Marker, Blocks, Count}
+use Rattle.refusal.specs.declared.Why.the-variants.{Short, Version, Kind, Length, Cut, Time, Option, Fragment, Standard, Package, Row, Large, Room, Marker, Blocks, Text, Count}
 use Rattle.refusal.specs.declared.Refusal.{Refusal}
 
 -- the case that has a number: the table's cases by their numbers, the first one where the table leaves a number out
 whyOf : ℕ → Why
-whyOf n = getD (Short ∷ Version ∷ Kind ∷ Length ∷ Cut ∷ Time ∷ Option ∷ Fragment ∷ Standard ∷ Package ∷ Row ∷ Large ∷ Room ∷ Marker ∷ Blocks ∷ Short ∷ Count ∷ []) (n - 1) Short
+whyOf n = getD (Short ∷ Version ∷ Kind ∷ Length ∷ Cut ∷ Time ∷ Option ∷ Fragment ∷ Standard ∷ Package ∷ Row ∷ Large ∷ Room ∷ Marker ∷ Blocks ∷ Text ∷ Count ∷ []) (n - 1) Short
 
 back : (w : Why) → whyOf (numberOf w) ≡ w
 unfolding whyOf
@@ -32,6 +32,7 @@ back Large = refl
 back Room = refl
 back Marker = refl
 back Blocks = refl
+back Text = refl
 back Count = refl
 
 pub number-injective : TellsApart numberOf

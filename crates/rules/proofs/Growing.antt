@@ -1,11 +1,12 @@
 -- How the released list and the copy grow, message by message: what the loop of the copy keeps.
-use Prim.Native.Nat.{ℕ, suc, _+_, _*_, _/_, _%_}
+use Prim.Native.Nat.{ℕ, zero, suc, _+_, _*_, _/_, _%_}
 use mathlib.Core.Path.{_≡_, refl, ap, ap₂, _∙_}
 use mathlib.Core.Bool.{Bool, true, false}
 use mathlib.Core.List.{List, [], _∷_, _++_, map, append-nil, append-assoc}
 use native.Mathlib.Nat.{zero-add, add-zero}
 use native.Mathlib.Omega.{arith}
 use lib.Dec.{eqb}
+use lib.ListN.{replicate}
 use Rattle.rules.specs.Bytes.{join}
 use Rattle.rules.specs.Packages.{Package}
 use Rattle.rules.specs.Message.{Message}
@@ -26,6 +27,10 @@ join-append (c ∷ cs) ds = rw (join-append cs ds, append-assoc)
 pub map-append : {A B : Type 0} (f : A → B) (l m : List A) → map f (l ++ m) ≡ map f l ++ map f m
 map-append f [] m = refl
 map-append f (a ∷ l) m = ap (λ (r : List _). f a ∷ r) (map-append f l m)
+
+pub map-replicate : {A B : Type 0} (f : A → B) (n : ℕ) (a : A) → map f (replicate n a) ≡ replicate n (f a)
+map-replicate f zero a = refl
+map-replicate f (suc n) a = ap (λ (l : List _). f a ∷ l) (map-replicate f n a)
 
 -- the released list of more messages
 withEntryOf-append : (m : Message) (ps : List Package) (es fs : List Entry) → withEntryOf m ps (es ++ fs) ≡ withEntryOf m ps es ++ fs

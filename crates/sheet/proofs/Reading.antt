@@ -1,5 +1,5 @@
 -- Reading a row and a sheet: a law for each `return`, and what the loop over the rows keeps.
-use Prim.Native.Nat.{ℕ, zero, suc, _+_, _-_, _*_, _/_, _%_, _≤_, _<_}
+use Prim.Native.Nat.{ℕ, suc, _+_, _-_, _*_, _/_, _%_, _≤_, _<_}
 use mathlib.Core.Path.{_≡_, refl, sym, ap, _∙_}
 use mathlib.Core.Bool.{Bool, true, false, not, _&&_}
 use mathlib.Core.List.{List, [], _∷_, _++_, map, append-assoc}
@@ -14,7 +14,7 @@ use Rattle.rules.specs.Bytes.{Bytes, word}
 use Rattle.rules.specs.Sheet as rules
 use Rattle.rules.specs.Sheet.{bigEndian, rowOf, startOf, endOf, rowFits, sheetRows, shownRows}
 use Rattle.rules.proofs.Outcomes.{pass, halt, step, stop}
-use Rattle.rules.proofs.Growing.{map-append}
+use Rattle.rules.proofs.Growing.{map-append, map-replicate}
 use Rattle.rules.proofs.Loops.{Doing, doing-start, doing-next, doing-end, doing-bad}
 use Rattle.rules.proofs.Rows.{row-words}
 use Rattle.sheet.specs.declared.Row.{Row}
@@ -101,10 +101,6 @@ pub record Reading (s : List ℕ) (rows : List Row) (count at : ℕ) : Type 0 wh
 length-map : {A B : Type 0} (f : A → B) (l : List A) → length (map f l) ≡ length l
 length-map f [] = refl
 length-map f (a ∷ l) = ap suc (length-map f l)
-
-map-replicate : {A B : Type 0} (f : A → B) (n : ℕ) (a : A) → map f (replicate n a) ≡ replicate n (f a)
-map-replicate f zero a = refl
-map-replicate f (suc n) a = ap (λ (l : List _). f a ∷ l) (map-replicate f n a)
 
 -- one row more
 stored : (done : List Row) (n : ℕ) (r : Row) → n < 32 → length done ≡ n → set (done ++ replicate (32 - n) noRow) n r ≡ (done ++ (r ∷ [])) ++ replicate (32 - (n + 1)) noRow

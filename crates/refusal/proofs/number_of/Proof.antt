@@ -53,6 +53,9 @@ enum-told-15 c = search needs
 enum-told-16 : tie.Need-enum-told-16
 enum-told-16 c = search needs
 
+enum-told-17 : tie.Need-enum-told-17
+enum-told-17 c = search needs
+
 returns : tie.Need-returns
 returns c = ap numberOf (sym (c .enum-told .given .1))
 
@@ -101,6 +104,9 @@ returns-15 c = ap numberOf (sym (c .enum-told15 .given .1))
 returns-16 : tie.Need-returns-16
 returns-16 c = ap numberOf (sym (c .enum-told16 .given .1))
 
+returns-17 : tie.Need-returns-17
+returns-17 c = ap numberOf (sym (c .enum-told17 .given .1))
+
 pub number-of-spec : {M : Type 1} → statement M
 number-of-spec =
     tie.close
@@ -121,6 +127,7 @@ number-of-spec =
     enum-told-14
     enum-told-15
     enum-told-16
+    enum-told-17
     returns
     returns-2
     returns-3
@@ -136,4 +143,5 @@ number-of-spec =
     returns-13
     returns-14
     returns-15
-    returns-16)
+    returns-16
+    returns-17)
