@@ -8,8 +8,8 @@
  *
  * A slice is a pointer and a length in bytes. Pointers are never null, even where the length is 0: any other address
  * does there. A buffer that is written, values included, overlaps nothing else that the same call is handed. An output
- * buffer of length 0 asks how many bytes are needed, by HIBERNAXO_ROOM. The functions keep no state and no pointer, and
- * may run on several threads at a time.
+ * buffer of length 0 asks how many bytes are needed, by HIBERNAXO_ROOM. The functions keep nothing and no pointer, and may
+ * run on several threads at a time; what a step needs of those before it, its caller hands over as a state.
  */
 #ifndef HIBERNAXO_H
 #define HIBERNAXO_H
@@ -40,7 +40,8 @@ enum hibernaxo_refusal {
     HIBERNAXO_MARKER = 14,   /* fewer than 8 bytes, or another marker: 0 */
     HIBERNAXO_BLOCKS = 15,   /* not 1 to 80 whole codeblocks: the burst's length */
     HIBERNAXO_TEXT = 16,     /* the first byte that breaks the form of a line of ids, or the line's end; then the first digit of an item against the rules; in writing, the range's index */
-    HIBERNAXO_COUNT = 17     /* option 0x87 says another number than that of the packages: the message; 0 in the writer */
+    HIBERNAXO_COUNT = 17,    /* option 0x87 says another number than that of the packages: the message; 0 in the writer */
+    HIBERNAXO_IDS = 20       /* a state with more than 64 ids or one id twice: 0; a 65th id among the delivered ones: its message */
 };
 
 /* How many values each function stores. */
@@ -52,11 +53,20 @@ enum hibernaxo_refusal {
 #define HIBERNAXO_SHEET_VALUES 290
 #define HIBERNAXO_COPY_MEASURE_VALUES 4
 #define HIBERNAXO_COPY_WRITE_VALUES 4
+#define HIBERNAXO_STEP_VALUES 6
 #define HIBERNAXO_PURGE_VALUES 2
 #define HIBERNAXO_RANDOMIZE_VALUES 1
 #define HIBERNAXO_OPEN_BURST_VALUES 2
 #define HIBERNAXO_READ_IDS_VALUES 66
 #define HIBERNAXO_WRITE_IDS_VALUES 2
+
+/* A state is an array of 32-bit numbers: how many ids it holds, then the ids, and as many places behind each id the
+ * sequence number that its next message gets. A state with no id is all zero. */
+#define HIBERNAXO_STEP_STATE 129
+#define HIBERNAXO_STATE_HELD 0
+#define HIBERNAXO_STATE_IDS 1
+#define HIBERNAXO_STATE_NEXT 65
+#define HIBERNAXO_STATE_PLACES 64
 
 /* The most rows of a sheet, and how many values each row has. */
 #define HIBERNAXO_ROWS 32
@@ -108,6 +118,15 @@ uint32_t hibernaxo_copy_measure(const uint8_t *recording, size_t recording_lengt
 uint32_t hibernaxo_copy_write(const uint8_t *recording, size_t recording_length, const uint8_t *sheet,
                               size_t sheet_length, uint8_t *out, size_t out_length,
                               uint64_t values[HIBERNAXO_COPY_WRITE_VALUES]);
+
+/* Copies the first quota messages of input, or all there are, into out, numbered on from the state (refusals 20, 11, 12,
+ * then 1 to 10 and 17 for the messages within the quota, 20 and 13). A long recording is handed over whole messages at a
+ * time, each step with the state that the step before left: the joined outputs are the copy of all that was consumed.
+ * values: [1] messages handled, [2] bytes consumed, [3] bytes, [4] messages, [5] packages written. A refusal changes
+ * neither state nor out; places of the state behind those held stay on success too. */
+uint32_t hibernaxo_step(const uint8_t *input, size_t input_length, const uint8_t *sheet, size_t sheet_length,
+                        size_t quota, uint32_t state[HIBERNAXO_STEP_STATE], uint8_t *out, size_t out_length,
+                        uint64_t values[HIBERNAXO_STEP_VALUES]);
 
 /* Purges a recording, which is the whole buffer, of every package that an order sheet grants (refusals 11, 12, 1 to 10
  * and 17, never 13). What is left stands in clean form from the buffer's start on, sequence numbers and options kept

@@ -501,6 +501,82 @@ static void purging(void)
     KEPT(buf);
 }
 
+/* A state with so many ids held, and these first two with their next numbers; zero in the other places. */
+static struct lent state_of(uint32_t held, uint32_t first, uint32_t first_next, uint32_t second, uint32_t second_next)
+{
+    struct lent memory = lend(4 * HIBERNAXO_STEP_STATE, 0);
+    uint32_t *places = (uint32_t *)(void *)memory.bytes;
+    places[HIBERNAXO_STATE_HELD] = held;
+    places[HIBERNAXO_STATE_IDS] = first;
+    places[HIBERNAXO_STATE_IDS + 1] = second;
+    places[HIBERNAXO_STATE_NEXT] = first_next;
+    places[HIBERNAXO_STATE_NEXT + 1] = second_next;
+    return memory;
+}
+
+static void same_state(int line, struct lent state, struct lent wanted)
+{
+    if (memcmp(state.bytes, wanted.bytes, 4 * HIBERNAXO_STEP_STATE) != 0)
+        fail(line, "another state is left");
+}
+
+#define STATE(state) ((uint32_t *)(void *)(state).bytes)
+#define STAYS(state, held, id, next, second, second_next) same_state(__LINE__, state, state_of(held, id, next, second, second_next))
+
+/* Document 02, A10: M under R, step by step. */
+static void steps(void)
+{
+    struct lent s = input(M), none = zeros(0), sheet = input(R), out = buffer(48), junk = zeros(1), large = zeros(LARGEST + 1), full;
+    struct lent state = state_of(0, 0, 0, 0, 0);
+    CALL(hibernaxo_step, s.bytes, s.length, sheet.bytes, sheet.length, 1, STATE(state), out.bytes, out.length, values(HIBERNAXO_STEP_VALUES));
+    EXPECT(HIBERNAXO_OK, 0, 1, 56, 40, 1, 1);
+    WRITTEN(out, P10);
+    STAYS(state, 1, 7, 1, 0, 0);
+    out = buffer(40);
+    CALL(hibernaxo_step, s.bytes, s.length, sheet.bytes, sheet.length, 9, STATE(state), out.bytes, out.length, values(HIBERNAXO_STEP_VALUES));
+    EXPECT(HIBERNAXO_OK, 0, 1, 56, 40, 1, 1);
+    HOLDS(out, 0, "100000C0 00000007 00000001 00000028");
+    STAYS(state, 1, 7, 2, 0, 0);
+    /* the last number and the one behind it; unused places stay */
+    state = state_of(1, 7, 0xFFFFFFFF, 9, 5);
+    CALL(hibernaxo_step, s.bytes, s.length, sheet.bytes, sheet.length, 1, STATE(state), out.bytes, out.length, values(HIBERNAXO_STEP_VALUES));
+    EXPECT(HIBERNAXO_OK, 0, 1, 56, 40, 1, 1);
+    HOLDS(out, 0, "100000C0 00000007 FFFFFFFF 00000028");
+    STAYS(state, 1, 7, 0, 9, 5);
+    /* quota 0: nothing, whatever the input holds; but it is not too long */
+    out = buffer(39);
+    CALL(hibernaxo_step, junk.bytes, junk.length, sheet.bytes, sheet.length, 0, STATE(state), out.bytes, out.length, values(HIBERNAXO_STEP_VALUES));
+    EXPECT(HIBERNAXO_OK, 0, 0, 0, 0, 0, 0);
+    CALL(hibernaxo_step, large.bytes, large.length, sheet.bytes, sheet.length, 0, STATE(state), out.bytes, out.length, values(HIBERNAXO_STEP_VALUES));
+    EXPECT(HIBERNAXO_LARGE, LARGEST);
+    /* refused: the state and the buffer stay */
+    CALL(hibernaxo_step, s.bytes, s.length, sheet.bytes, sheet.length, 1, STATE(state), out.bytes, out.length, values(HIBERNAXO_STEP_VALUES));
+    EXPECT(HIBERNAXO_ROOM, 40);
+    CALL(hibernaxo_step, junk.bytes, junk.length, sheet.bytes, sheet.length, 1, STATE(state), out.bytes, out.length, values(HIBERNAXO_STEP_VALUES));
+    EXPECT(HIBERNAXO_SHORT, 0);
+    CALL(hibernaxo_step, s.bytes, s.length, s.bytes, s.length, 1, STATE(state), out.bytes, out.length, values(HIBERNAXO_STEP_VALUES));
+    EXPECT(HIBERNAXO_ROW, 56);
+    STAYS(state, 1, 7, 0, 9, 5);
+    /* a full state: no place for id 7, and nothing to deliver under no sheet */
+    full = state_of(64, 100, 0, 0, 0);
+    for (uint32_t k = 0; k < HIBERNAXO_STATE_PLACES; k++)
+        STATE(full)[HIBERNAXO_STATE_IDS + k] = 100 + k;
+    CALL(hibernaxo_step, s.bytes, s.length, sheet.bytes, sheet.length, 1, STATE(full), out.bytes, out.length, values(HIBERNAXO_STEP_VALUES));
+    EXPECT(HIBERNAXO_IDS, 0);
+    CALL(hibernaxo_step, s.bytes, s.length, none.bytes, none.length, 1, STATE(full), out.bytes, out.length, values(HIBERNAXO_STEP_VALUES));
+    EXPECT(HIBERNAXO_OK, 0, 1, 56, 0, 0, 0);
+    /* states that cannot be */
+    state = state_of(2, 7, 0, 7, 0);
+    CALL(hibernaxo_step, none.bytes, none.length, sheet.bytes, sheet.length, 1, STATE(state), out.bytes, out.length, values(HIBERNAXO_STEP_VALUES));
+    EXPECT(HIBERNAXO_IDS, 0);
+    STAYS(state, 2, 7, 0, 7, 0);
+    state = state_of(0xFFFFFFFF, 7, 3, 8, 4);
+    CALL(hibernaxo_step, none.bytes, none.length, sheet.bytes, sheet.length, 1, STATE(state), out.bytes, out.length, values(HIBERNAXO_STEP_VALUES));
+    EXPECT(HIBERNAXO_IDS, 0);
+    STAYS(state, 0xFFFFFFFF, 7, 3, 8, 4);
+    KEPT(out);
+}
+
 static void randomizing(void)
 {
     struct lent buf = lend(769, 0); /* P12, by the bytes of zeros that were randomized */
@@ -648,7 +724,7 @@ static void writing_ids(void)
 
 int main(void)
 {
-    static void (*const groups[])(void) = {headers, packages, checks, writing, cleaning, sheets, copies, purging, randomizing, bursts, reading_ids, writing_ids};
+    static void (*const groups[])(void) = {headers, packages, checks, writing, cleaning, sheets, copies, steps, purging, randomizing, bursts, reading_ids, writing_ids};
     signal(SIGSEGV, touched);
     signal(SIGBUS, touched);
     for (size_t k = 0; k < sizeof groups / sizeof *groups; k++) {

@@ -5,6 +5,7 @@ use crate::copy::Copied;
 use crate::ids::{self, IdRange, MOST_RANGES};
 use crate::refusal::Refusal;
 use crate::render::Draft;
+use crate::steps::{self, Running, State, MOST_IDS};
 use crate::{burst, copy, parse, purge, render, sheet};
 
 #[derive(Clone, Copy, Debug, PartialEq, Eq)]
@@ -178,6 +179,48 @@ pub fn write_ids(ranges: &[IdRange; MOST_RANGES], count: usize, out: &mut [u8]) 
     }
     match ids::write_ids(&counted, out) {
         Ok(bytes) => Answer::success(&[bytes]),
+        Err(refusal) => Answer::refused(refusal),
+    }
+}
+
+/// The state in its words: how many ids are held, 64 ids, and the next number of
+/// each. Of more than 64 ids the 65th is no other than the first.
+fn state_in(words: &[u32]) -> State {
+    let held = (words[0] as usize).min(MOST_IDS + 1);
+    let running = |at: usize| Running {
+        message_id: words[1 + at % MOST_IDS],
+        next: words[1 + MOST_IDS + at % MOST_IDS],
+    };
+    (0..held).map(running).collect()
+}
+
+/// One step; the state is lent as the bytes of its words, and those behind the ids
+/// held stay.
+pub fn step(
+    input: &[u8],
+    sheet: &[u8],
+    quota: usize,
+    state: &mut [u8],
+    out: &mut [u8],
+) -> Answer<6> {
+    let four_bytes = state.as_chunks_mut().0;
+    let words: Vec<u32> = four_bytes.iter().map(|four| u32::from_ne_bytes(*four)).collect();
+    let mut after = state_in(&words);
+    match steps::step(&mut after, input, sheet, quota, out) {
+        Ok(done) => {
+            four_bytes[0] = (after.len() as u32).to_ne_bytes();
+            for (at, running) in after.iter().enumerate() {
+                four_bytes[1 + at] = running.message_id.to_ne_bytes();
+                four_bytes[1 + MOST_IDS + at] = running.next.to_ne_bytes();
+            }
+            Answer::success(&[
+                done.handled,
+                done.consumed,
+                done.bytes,
+                done.messages,
+                done.packages,
+            ])
+        }
         Err(refusal) => Answer::refused(refusal),
     }
 }

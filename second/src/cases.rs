@@ -12,10 +12,11 @@ use crate::orders::{bad_sheet, everything, pack_sheet, row_around, rows, targets
 use crate::pairs::Pair;
 use crate::refusal::{MOST_BYTES, ROOM};
 use crate::rests::Scene;
+use crate::runs::{any_state, many_ids, words_of, Run};
 use crate::seams::Seam;
 use crate::{
     copy, demand, ids, in_turn, measuring, purging, releases, render, round_trips, side_by_side,
-    typed_ids,
+    stepping, steps, typed_ids,
 };
 
 type Case = fn(&mut Judge, &mut Dice);
@@ -40,8 +41,16 @@ const KINDS: [(u64, Case); 15] = [
 ];
 
 /// What is tried beside these cases: one case beside each so many of them.
-const BESIDE: [(u64, Case); 5] =
-    [(7, pair_case), (8, purge_case), (12, purging_case), (5, ids_case), (9, typed_ids_case)];
+const BESIDE: [(u64, Case); 8] = [
+    (7, pair_case),
+    (8, purge_case),
+    (12, purging_case),
+    (5, ids_case),
+    (9, typed_ids_case),
+    (4, step_case),
+    (13, stepping_case),
+    (160, run_case),
+];
 
 /// Runs the case with this number, and what is tried beside it.
 pub fn run(judge: &mut Judge, seed: u64, case: u64) {
@@ -332,6 +341,56 @@ fn ids_case(judge: &mut Judge, dice: &mut Dice) {
 fn typed_ids_case(judge: &mut Judge, dice: &mut Dice) {
     judge.kind("ids as the desk types them");
     typed_ids::typed_ids(judge, dice);
+}
+
+/// A recording, the ids that a state for it may have, and a sheet.
+fn step_input(dice: &mut Dice) -> (Vec<u8>, Vec<u32>, Vec<u8>) {
+    if dice.chance(1, 5) {
+        return many_ids(dice);
+    }
+    if dice.chance(1, 3) {
+        let (recording, targets) = any_recording(dice);
+        let ids = targets.iter().map(|target| target.message_id).collect();
+        let sheet = any_sheet(dice, &targets);
+        return (recording, ids, sheet);
+    }
+    let world = World::new(dice);
+    let messages = messages(dice, &world);
+    let rows = rows(dice, &targets(&messages));
+    let sheet = if dice.chance(1, 2) { pack_sheet(&[everything()]) } else { pack_sheet(&rows) };
+    let recording = if dice.chance(1, 4) { damaged(dice, messages) } else { lay_all(&messages).0 };
+    (recording, world.message_ids, sheet)
+}
+
+fn step_case(judge: &mut Judge, dice: &mut Dice) {
+    judge.kind("step");
+    let (input, ids, sheet) = step_input(dice);
+    let state = any_state(dice, &ids);
+    let some = dice.below(12);
+    let quota = dice.pick(&[0, 1, 2, 3, some, some, 1_000, usize::MAX]);
+    let stepped = steps::step(&mut state.clone(), &input, &sheet, quota, &mut []);
+    let room = needed(stepped.map(|done| done.bytes));
+    let room = room_for(dice, room);
+    let (words, buffer) = (words_of(dice, &state), dice.bytes(room));
+    let step = side_by_side::Step { input: &input, sheet: &sheet, quota, state: &words };
+    side_by_side::step(judge, dice, step, &buffer);
+}
+
+fn stepping_case(judge: &mut Judge, dice: &mut Dice) {
+    judge.kind("steps in turn, and the copy");
+    let (recording, _, sheet) = step_input(dice);
+    stepping::as_copy(judge, dice, &recording, &sheet);
+    let size = dice.within(200, 4_000);
+    let run = Run::new(dice, size);
+    stepping::run(judge, dice, &run);
+    stepping::equal_and_other(judge, dice);
+}
+
+fn run_case(judge: &mut Judge, dice: &mut Dice) {
+    judge.kind("a long run of steps");
+    let size = dice.within(70_000, 200_000);
+    let run = Run::new(dice, size);
+    stepping::run(judge, dice, &run);
 }
 
 fn randomize_case(judge: &mut Judge, dice: &mut Dice) {

@@ -47,7 +47,7 @@ pub fn list_of<'a>(
 }
 
 /// The message's entry, if one of its packages is to be released.
-fn entry_of<'a>(
+pub fn entry_of<'a>(
     message: &Message<'a>,
     released: impl Fn(&Message, &Package) -> bool,
 ) -> Option<Entry<'a>> {
@@ -68,18 +68,23 @@ fn messages_of(entries: Vec<Entry>) -> Vec<Message> {
     let mut messages = Vec::with_capacity(entries.len());
     for entry in entries {
         let count = earlier.entry(entry.message_id).or_insert(0);
-        messages.push(Message {
-            flags: PLAYBACK_FLAG | entry.flags,
-            message_id: entry.message_id,
-            sequence: *count,
-            seconds: entry.seconds,
-            nanoseconds: entry.nanoseconds,
-            option_run: &[],
-            packages: entry.packages,
-        });
+        messages.push(message_of(entry, *count));
         *count += 1;
     }
     messages
+}
+
+/// The message that the copy writes for an entry, with this sequence number.
+pub fn message_of(entry: Entry, sequence: u32) -> Message {
+    Message {
+        flags: PLAYBACK_FLAG | entry.flags,
+        message_id: entry.message_id,
+        sequence,
+        seconds: entry.seconds,
+        nanoseconds: entry.nanoseconds,
+        option_run: &[],
+        packages: entry.packages,
+    }
 }
 
 /// What the copy of a released list needs: a header for each entry, and its

@@ -69,6 +69,17 @@ pub mod raw {
             out_len: usize,
             values: *mut u64,
         ) -> u32;
+        pub fn hibernaxo_step(
+            input: *const u8,
+            len: usize,
+            sheet: *const u8,
+            sheet_len: usize,
+            quota: usize,
+            state: *mut u32,
+            out: *mut u8,
+            out_len: usize,
+            values: *mut u64,
+        ) -> u32;
     }
 }
 
@@ -219,6 +230,31 @@ pub fn write_ids(ends: &mut [u8], count: usize, out: &mut [u8]) -> Given<2> {
     with_words::<64, 2>(ends, |ends| {
         call(|values| unsafe {
             raw::hibernaxo_write_ids(ends, count, out.as_mut_ptr(), out.len(), values)
+        })
+    })
+}
+
+/// The state is 129 words: how many ids are held, 64 ids, and 64 next numbers.
+pub fn step(
+    input: &mut [u8],
+    sheet: &mut [u8],
+    quota: usize,
+    state: &mut [u8],
+    out: &mut [u8],
+) -> Given<6> {
+    with_words::<129, 6>(state, |state| {
+        call(|values| unsafe {
+            raw::hibernaxo_step(
+                input.as_mut_ptr(),
+                input.len(),
+                sheet.as_mut_ptr(),
+                sheet.len(),
+                quota,
+                state,
+                out.as_mut_ptr(),
+                out.len(),
+                values,
+            )
         })
     })
 }

@@ -6,7 +6,7 @@ use crate::refusal::{NAMES, NUMBERS};
 use std::fmt::Write;
 
 /// The exports, and the refusal numbers that each of them can give.
-pub const EXPORTS: [(&str, &[u32]); 13] = [
+pub const EXPORTS: [(&str, &[u32]); 14] = [
     ("header", &[1, 2, 3, 4, 5, 6, 7, 12]),
     ("package", &[10, 12]),
     ("check", &[1, 2, 3, 4, 5, 6, 7, 8, 9, 10, 12, 17]),
@@ -20,6 +20,7 @@ pub const EXPORTS: [(&str, &[u32]); 13] = [
     ("open_burst", &[12, 14, 15]),
     ("read_ids", &[12, 16]),
     ("write_ids", &[13, 16]),
+    ("step", &[1, 2, 3, 4, 5, 6, 7, 8, 9, 10, 11, 12, 13, 17, 20]),
 ];
 
 /// So many differences are printed; the others are only counted.

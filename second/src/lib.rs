@@ -14,6 +14,7 @@ pub mod purge;
 pub mod refusal;
 pub mod render;
 pub mod sheet;
+pub mod steps;
 pub mod text;
 
 // The generator of inputs, good and bad.
@@ -25,6 +26,7 @@ pub mod lines;
 pub mod orders;
 pub mod pairs;
 pub mod rests;
+pub mod runs;
 pub mod seams;
 
 // The comparison with the library's exports.
@@ -52,6 +54,8 @@ pub mod releases;
 pub mod round_trips;
 #[cfg(feature = "exports")]
 pub mod side_by_side;
+#[cfg(feature = "exports")]
+pub mod stepping;
 #[cfg(feature = "exports")]
 pub mod typed_ids;
 

@@ -2,6 +2,7 @@
 //! paper's own numbers. They are part of every run.
 
 mod ids;
+mod steps;
 
 use crate::burst::{CODEBLOCK_BYTES, MARKER_BYTES, PERIOD};
 use crate::damage::{with_faults, FAULTS};
@@ -27,7 +28,7 @@ use crate::side_by_side;
 type Part = fn(&mut Limits);
 
 /// The parts in their order.
-const PARTS: [(&str, Part); 19] = [
+const PARTS: [(&str, Part); 20] = [
     ("the paper's numbers", paper_numbers),
     ("sizes", sizes),
     ("faults", faults),
@@ -45,6 +46,7 @@ const PARTS: [(&str, Part); 19] = [
     ("purges", purges),
     ("bursts", bursts),
     ("ids", ids::ids),
+    ("steps", steps::steps),
     ("demand 3", demand_3),
     ("round trips", round_trips),
 ];

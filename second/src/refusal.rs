@@ -18,12 +18,14 @@ pub const BLOCKS: u32 = 15;
 pub const TEXT: u32 = 16;
 /// In the order of checks it stands directly after PACKAGE.
 pub const COUNT: u32 = 17;
+/// It stands first of all for a state, and before ROOM for a 65th id.
+pub const IDS: u32 = 20;
 
 /// Every refusal number is below this; 0 is success.
-pub const NUMBERS: usize = 18;
+pub const NUMBERS: usize = 21;
 
 /// The refusal numbers and their names.
-pub const NAMES: [(u32, &str); 17] = [
+pub const NAMES: [(u32, &str); 18] = [
     (SHORT, "SHORT"),
     (VERSION, "VERSION"),
     (TYPE, "TYPE"),
@@ -41,6 +43,7 @@ pub const NAMES: [(u32, &str); 17] = [
     (BLOCKS, "BLOCKS"),
     (TEXT, "TEXT"),
     (COUNT, "COUNT"),
+    (IDS, "IDS"),
 ];
 
 /// Every input, sheets apart, has at most so many bytes.

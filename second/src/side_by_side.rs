@@ -26,6 +26,7 @@ const RANDOMIZE: usize = 9;
 const OPEN_BURST: usize = 10;
 const READ_IDS: usize = 11;
 const WRITE_IDS: usize = 12;
+const STEP: usize = 13;
 
 pub fn header(judge: &mut Judge, dice: &mut Dice, bytes: &[u8]) -> Answer<10> {
     let mut input = Lent::new(dice, bytes);
@@ -201,6 +202,35 @@ pub fn write_ids(
     let buffers = [("ends", &ends), ("out", &out)];
     judge.settle(WRITE_IDS, &[("count", handed.count as u64)], expected, given, &buffers);
     (given.answer, out.content().to_vec())
+}
+
+/// What a step gets: input, sheet, quota, and the state as the bytes of its words.
+#[derive(Clone, Copy, Debug)]
+pub struct Step<'a> {
+    pub input: &'a [u8],
+    pub sheet: &'a [u8],
+    pub quota: usize,
+    pub state: &'a [u8],
+}
+
+/// One step into a buffer with these bytes. What comes back are the answer, the
+/// whole buffer and the state.
+pub fn step(
+    judge: &mut Judge,
+    dice: &mut Dice,
+    step: Step,
+    buffer: &[u8],
+) -> (Answer<6>, Vec<u8>, Vec<u8>) {
+    let mut input = Lent::new(dice, step.input);
+    let mut sheet = Lent::new(dice, step.sheet);
+    let mut state = Lent::new(dice, step.state);
+    let mut out = Lent::new(dice, buffer);
+    let given = exports::step(input.lend(), sheet.lend(), step.quota, state.lend(), out.lend());
+    let expected =
+        answers::step(step.input, step.sheet, step.quota, state.expected(), out.expected());
+    let buffers = [("input", &input), ("sheet", &sheet), ("state", &state), ("out", &out)];
+    judge.settle(STEP, &[("quota", step.quota as u64)], expected, given, &buffers);
+    (given.answer, out.content().to_vec(), state.content().to_vec())
 }
 
 /// Walks over the packages of a run from this place on, following the places

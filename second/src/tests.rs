@@ -4,6 +4,7 @@
 mod changed_rules;
 mod ids;
 mod purge;
+mod steps;
 mod two_sheets;
 
 use crate::burst::{open_burst, randomize, MARKER_BYTES, SEQUENCE};

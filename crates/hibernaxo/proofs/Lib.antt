@@ -3,3 +3,4 @@ pub mod Buffers
 pub mod Stored
 pub mod Rows
 pub mod Ids
+pub mod States

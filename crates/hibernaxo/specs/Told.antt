@@ -1,9 +1,9 @@
 -- What each export hands back, by the rules' answer: the refusal number, which it returns; the values, the place first; and the lent buffer as it is left, where one is lent.
-use Prim.Native.Nat.{ℕ, zero, suc, _+_, _-_, _*_}
+use Prim.Native.Nat.{ℕ, zero, suc, _+_, _-_, _*_, _%_, _^_}
 use mathlib.Core.Bool.{Bool, true, false}
-use mathlib.Core.List.{List, [], _∷_, map}
+use mathlib.Core.List.{List, [], _∷_, _++_, map}
 use mathlib.Core.Option.{Option, none, some}
-use lib.ListN.{drop, replicate}
+use lib.ListN.{getD, drop, replicate}
 use Rattle.rules.specs.Outcome.{Outcome, good, bad}
 use Rattle.rules.specs.Bytes.{at, join}
 use Rattle.rules.specs.Packages.{packageHeader}
@@ -14,6 +14,8 @@ use Rattle.rules.specs.Writer.{Draft}
 use Rattle.rules.specs.Sheet.{Row, mostRows}
 use Rattle.rules.specs.Copy.{Answer}
 use Rattle.rules.specs.Burst.{Randomized, Opened}
+use Rattle.numbered.specs.Numbering.{State}
+use Rattle.numbered.specs.Quota.{Report}
 use Rattle.ids.specs.Reader.{Range, mostItems}
 use Rattle.ids.specs.declared.IdRange.{IdRange}
 
@@ -70,6 +72,26 @@ answerValues a = (a .number, a .place ∷ a .bytes ∷ a .messages ∷ a .packag
 
 abbrev pub copyTold : Answer × List ℕ → ℕ × List ℕ × List ℕ
 copyTold = withBuffer answerValues
+
+-- n numbers of an array, from a place on
+unfoldable pub numbersFrom : ℕ → ℕ → List ℕ → List ℕ
+numbersFrom zero at l = []
+numbersFrom (suc n) at l = getD l at 0 ∷ numbersFrom n (suc at) l
+
+-- the state that an array of 129 numbers stands for: how many ids are held, then 64 ids, then beside each its next number
+abbrev pub stateAt : List ℕ → State
+stateAt l = record { ids = numbersFrom 64 1 l; next = numbersFrom 64 65 l; held = getD l 0 0 }
+
+-- and the array of a state, whose first number has 32 bits
+abbrev pub stateValues : State → List ℕ
+stateValues s = s .held % 2 ^ 32 ∷ (s .ids ++ s .next)
+
+-- a step: messages handled, bytes consumed; bytes, messages and packages written; and the state behind it
+abbrev pub reportValues : Report → ℕ × List ℕ
+reportValues r = (r .number, r .place ∷ r .handled ∷ r .consumed ∷ r .bytes ∷ r .messages ∷ r .packages ∷ [])
+
+abbrev pub steppedTold : Report × State × List ℕ → ℕ × List ℕ × List ℕ × List ℕ
+steppedTold (r, state, buffer) = (reportValues r .0, reportValues r .1, stateValues state, buffer)
 
 -- a buffer randomized
 abbrev pub randomizedTold : Randomized × List ℕ → ℕ × List ℕ × List ℕ

@@ -11,13 +11,15 @@ use message::Checked;
 use message::HeaderRead;
 use message::Mdid;
 use message::PackageRead;
+use numbered::Answer as Reply;
 use refusal::Refusal;
 use release::Answer;
 use sheet::Row;
 use sheet::SheetAnswer;
+use step::State;
 ghost use mathlib.Core.Path.{_≡_};
 ghost use mathlib.Core.List.{[], _∷_, map};
-ghost use Prim.Native.Nat.{_+_, _*_, _<_};
+ghost use Prim.Native.Nat.{_+_, _*_, _≤_, _<_};
 ghost use lib.Seq.{sets};
 ghost use Rattle.rules.specs.Bytes.{join};
 ghost use Rattle.rules.specs.Reading.{header, checkedRecording};
@@ -32,10 +34,13 @@ ghost use Rattle.refusal.specs.Numbers.{numberOf};
 ghost use Rattle.sheet.specs.Rows.{rowIn};
 ghost use Rattle.compose.specs.Told.{numbers};
 ghost use Rattle.release.specs.Told as release;
+ghost use Rattle.numbered.specs.Told.{report};
+ghost use Rattle.step.specs.Step as rule;
+ghost use Rattle.step.specs.Told.{stateIn};
 ghost use Rattle.ids.specs.Reader.{readIds};
 ghost use Rattle.ids.specs.Writer.{writeIds};
 ghost use Rattle.ids.specs.Told.{rangeIn, handedOver};
-ghost use Rattle.hibernaxo.specs.Told.{headerTold, stepTold, checkTold, draft, writtenValues, writtenTold, rowValues, sheetTold, answerValues, copyTold, randomizedTold, openedTold, rangeValues, idsTold, rangesIn};
+ghost use Rattle.hibernaxo.specs.Told.{headerTold, stepTold, checkTold, draft, writtenValues, writtenTold, rowValues, sheetTold, answerValues, copyTold, numbersFrom, stateAt, stateValues, reportValues, steppedTold, randomizedTold, openedTold, rangeValues, idsTold, rangesIn};
 
 // The number of a refusal.
 fn number_in(x: Refusal) -> u32
@@ -280,6 +285,101 @@ pub extern "C" fn hibernaxo_copy_write(
 {
     let a = release::write(recording, sheet, out);
     put_answer(a, values)
+}
+
+// 64 numbers of a state's array, from a place on.
+fn part_of(state: &[u32; 129], at: usize) -> [u32; 64]
+    requires { ⌜ at ≤ 65 ⌝ }
+    ensures { λ r. ⌜ r ≡ numbersFrom 64 at (now (state .entry)) ⌝ }
+{
+    let mut part = [0u32; 64];
+    let mut i = 0;
+    while i < 64 {
+        part[i] = state[at + i];
+        i += 1;
+    }
+    part
+}
+
+fn put_part(state: &mut [u32; 129], at: usize, part: [u32; 64])
+    requires { ⌜ at ≤ 65 ⌝ }
+    ensures { λ _. ⌜ now (state .exit) ≡ sets (now (state .entry)) at part ⌝ }
+{
+    let mut i = 0;
+    while i < 64 {
+        state[at + i] = part[i];
+        i += 1;
+    }
+}
+
+fn wide(x: u32) -> usize
+    ensures { λ r. ⌜ r ≡ x ⌝ }
+{
+    x as usize
+}
+
+// The state that an array stands for: how many ids are held, then 64 ids, then beside each its next number.
+fn state_in(state: &[u32; 129]) -> State
+    ensures { λ r. ⌜ stateIn r ≡ stateAt (now (state .entry)) ⌝ }
+{
+    let ids = part_of(state, 1);
+    let next = part_of(state, 65);
+    let held = wide(state[0]);
+    State { ids, next, held }
+}
+
+fn put_state(state: &mut [u32; 129], after: State)
+    ensures { λ _. ⌜ now (state .exit) ≡ stateValues (stateIn after) ⌝ }
+{
+    let ids = after.ids;
+    let next = after.next;
+    *state = [0; 129];
+    state[0] = (after.held % 4294967296) as u32;
+    put_part(state, 1, ids);
+    put_part(state, 65, next);
+}
+
+// What a step answered.
+fn put_reply(a: Reply, values: &mut [u64; 6]) -> u32
+    ensures { λ r. ⌜ (r, now (values .exit)) ≡ reportValues (report a) ⌝ }
+{
+    match a {
+        Reply::Done(p) => {
+            *values = [
+                0,
+                p.handled as u64,
+                p.consumed as u64,
+                p.bytes as u64,
+                p.messages as u64,
+                p.packages as u64,
+            ];
+            0
+        }
+        Reply::Refused(x) => {
+            *values = [x.place as u64, 0, 0, 0, 0, 0];
+            number_in(x)
+        }
+    }
+}
+
+// A step of a recording under a sheet, numbered on from a state: messages handled, bytes consumed; bytes, messages and packages written.
+#[no_mangle]
+pub extern "C" fn hibernaxo_step(
+    input: &[u8],
+    sheet: &[u8],
+    quota: usize,
+    state: &mut [u32; 129],
+    out: &mut [u8],
+    values: &mut [u64; 6],
+) -> u32
+    ensures { λ r. ⌜ (r, now (values .exit), now (state .exit), now (out .exit)) ≡ steppedTold (rule.step (now (input .entry)) (now (sheet .entry)) quota (stateAt (now (state .entry))) (now (out .entry))) ⌝ }
+{
+    let before = state_in(state);
+    let done = step::step(input, sheet, quota, before, out);
+    let after = done.state;
+    put_state(state, after);
+    let answer = done.answer;
+    put_reply(answer, values)
 }
 
 // A buffer randomized.

@@ -10,7 +10,7 @@ use Rattle.rules.specs.Bytes.{part}
 use Rattle.rules.specs.Packages.{packageLength}
 use Rattle.rules.specs.Clean.{cleanPiece}
 use Rattle.rules.proofs.Loops.{sets-sets}
-use Rattle.release.proofs.Stores.{sets-before}
+use Rattle.numbered.proofs.Stores.{sets-before}
 use Rattle.message.specs.declared.Package.{Package}
 use Rattle.purge.specs.Parts.{Standing}
 use Rattle.purge.proofs.Stores.{drop-sets, drop-take, part-back}

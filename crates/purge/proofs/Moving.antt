@@ -30,8 +30,8 @@ use Rattle.message.specs.declared.Message.{Message}
 use Rattle.message.specs.Answers.{spotOfMessage}
 use Rattle.compose.specs.Payload.{flagsWith, headerBy}
 use Rattle.compose.specs.Told.{recordBy}
-use Rattle.release.specs.Parts.{messageBy, payloadOf}
-use Rattle.release.proofs.Entries.{payload-least}
+use Rattle.numbered.specs.Parts.{messageBy, payloadOf}
+use Rattle.numbered.proofs.Entries.{payload-least}
 use Rattle.purge.specs.declared.Left.{Left}
 use Rattle.purge.specs.Purge.{keptPackages, countSet, withPackages, losesLast, keptRecords, keptBytes}
 use Rattle.purge.specs.Parts.{keptPieces, Slid, Headed, headed, losesBy, KeptAt}

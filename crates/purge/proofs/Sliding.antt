@@ -30,9 +30,9 @@ use Rattle.message.specs.declared.PackageRead.the-variants as P
 use Rattle.message.specs.Answers.{toldPackage}
 use Rattle.sheet.specs.declared.Row.{Row}
 use Rattle.sheet.specs.Rows.{someGrants}
-use Rattle.release.specs.Parts.{sheetOf, messageBy, payloadOf}
-use Rattle.release.proofs.Found.{Taken, taken, Found, found, no-end, no-piece, is-piece, piece-size, next-is, least, on, still, piece-length}
-use Rattle.release.proofs.Packages.{NoPackage, asked-is}
+use Rattle.numbered.specs.Parts.{sheetOf, messageBy, payloadOf}
+use Rattle.numbered.proofs.Found.{Taken, taken, Found, found, no-end, no-piece, is-piece, piece-size, next-is, least, on, still, piece-length}
+use Rattle.numbered.proofs.Packages.{NoPackage, asked-is}
 use Rattle.purge.specs.declared.Left.{Left}
 use Rattle.purge.specs.Purge.{keptPackages}
 use Rattle.purge.specs.Parts.{keptPieces, Standing, KeptUnless, Slid}

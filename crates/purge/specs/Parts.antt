@@ -19,7 +19,7 @@ use Rattle.message.specs.declared.Header.{Header}
 use Rattle.message.specs.declared.Package.{Package}
 use Rattle.compose.specs.Payload.{headerBy}
 use Rattle.compose.specs.Told.{recordBy}
-use Rattle.release.specs.Parts.{payloadOf}
+use Rattle.numbered.specs.Parts.{payloadOf}
 use Rattle.purge.specs.Purge.{keptPackages, packageCount, countSet, keptRecords, keptBytes}
 use Rattle.purge.specs.declared.Left.{Left}
 

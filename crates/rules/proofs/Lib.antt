@@ -5,6 +5,7 @@ pub mod Outcomes
 pub mod Numbers
 pub mod Walk
 pub mod Cut
+pub mod Gives
 pub mod Refused
 pub mod Pieces
 pub mod Run
@@ -13,6 +14,7 @@ pub mod Wholes
 pub mod Again
 pub mod Passed
 pub mod Alone
+pub mod Final
 pub mod Cleaned
 pub mod Valids
 pub mod RoundTrip

@@ -1,7 +1,8 @@
 //! Times the library's exports against the second program and against a plain
 //! copy of the same bytes, bursts also against a bytewise loop, and measuring a
-//! copy beside writing it. Purging is timed beside moving the same bytes. The
-//! ways take turns; medians are shown.
+//! copy beside writing it. Purging is timed beside moving the same bytes, a step
+//! beside the single copy of the same input, and a run of steps over up to 64 MiB.
+//! The ways take turns; medians are shown.
 
 use second::answers::{self, Answer};
 use second::burst::{CODEBLOCK_BYTES, MARKER_BYTES, PERIOD, SEQUENCE};
@@ -9,7 +10,9 @@ use second::dice::Dice;
 use second::exports::raw;
 use second::generate::{lay_all, DirtyMessage, DirtyPackage};
 use second::orders::pack_sheet;
+use second::runs::STATE_WORDS;
 use second::sheet::Row;
+use second::steps::{self, State};
 use second::{copy, parse, purge, render};
 use std::hint::black_box;
 use std::process::ExitCode;
@@ -17,6 +20,10 @@ use std::time::Instant;
 
 const SIZES: [usize; 3] = [4_096, 16_384, 65_536];
 const CODEBLOCKS: [usize; 4] = [1, 5, 21, 80];
+/// A run has so many steps of 64 KiB.
+const STEPS: [usize; 3] = [16, 128, 1_024];
+/// How many samples of a step are as dear as one of a run.
+const SAMPLES_OF_A_RUN: usize = 16;
 /// A plain move goes down by so many bytes.
 const MOVED_BY: usize = 64;
 /// One sample takes about so many nanoseconds.
@@ -137,6 +144,28 @@ fn main() -> ExitCode {
             show(&time_purge(shape, size, repetitions));
         }
     }
+    println!("\na step beside the single copy of the same input");
+    println!(
+        "{:<44}{:>7}{:>11}{:>11}{:>11}{:>15}{:>15}",
+        "", "bytes", "export ns", "second ns", "copy ns", "export/second", "export/copy"
+    );
+    for shape in SHAPES {
+        for kind in [Kind::OneId, Kind::ManyIds, Kind::LastOf32Rows] {
+            for size in SIZES {
+                show(&time_step(shape, kind, size, repetitions));
+            }
+        }
+    }
+    println!("\na run of steps of 64 KiB each, in picoseconds for each byte");
+    println!(
+        "{:<34}{:>10}{:>11}{:>11}{:>11}{:>15}{:>15}",
+        "", "bytes", "export ps", "second ps", "memcpy ps", "export/second", "export/memcpy"
+    );
+    for shape in SHAPES {
+        for steps in STEPS {
+            show_run(&time_run(shape, steps, repetitions.div_ceil(SAMPLES_OF_A_RUN)));
+        }
+    }
     println!("\nmeasuring a copy beside writing it");
     println!(
         "{:<44}{:>7}{:>11}{:>11}{:>19}{:>19}",
@@ -156,6 +185,17 @@ fn show(line: &Line) {
     let [export, second, plain] = line.medians;
     println!(
         "{:<44}{:>7}{export:>11.0}{second:>11.0}{plain:>11.0}{:>15.2}{:>15.2}",
+        line.name,
+        line.bytes,
+        export / second,
+        export / plain
+    );
+}
+
+fn show_run(line: &Line) {
+    let [export, second, plain] = line.medians.map(|median| 1_000.0 * median / line.bytes as f64);
+    println!(
+        "{:<34}{:>10}{export:>11.0}{second:>11.0}{plain:>11.0}{:>15.2}{:>15.2}",
         line.name,
         line.bytes,
         export / second,
@@ -467,6 +507,92 @@ fn time_beside(shape: Shape, kind: Kind, size: usize, repetitions: usize) -> Bes
         measuring: [measure, own_measure],
         writing: [write, own_write],
     }
+}
+
+/// One step of the export over all of an input, from a state and to it.
+fn export_step(
+    input: &[u8],
+    sheet: &[u8],
+    state: &mut [u32; STATE_WORDS],
+    out: &mut [u8],
+) -> [u64; 6] {
+    let (input, sheet, out) = (black_box(input), black_box(sheet), black_box(out));
+    let mut values = [0; 6];
+    // The pointers and the lengths are those of the inputs, the state and the buffer.
+    let number = unsafe {
+        raw::hibernaxo_step(
+            input.as_ptr(),
+            input.len(),
+            sheet.as_ptr(),
+            sheet.len(),
+            usize::MAX,
+            state.as_mut_ptr(),
+            out.as_mut_ptr(),
+            out.len(),
+            values.as_mut_ptr(),
+        )
+    };
+    assert_eq!(black_box(number), 0);
+    black_box(out);
+    black_box(values)
+}
+
+/// One step of the second program over all of an input.
+fn second_step(input: &[u8], sheet: &[u8], state: &mut State, out: &mut [u8]) {
+    let stepped = steps::step(state, black_box(input), black_box(sheet), usize::MAX, out);
+    assert!(black_box(stepped).is_ok());
+    black_box(out);
+}
+
+/// Times a first step over all of an input, by the export and by the second
+/// program, beside the export's single copy of it.
+fn time_step(shape: Shape, kind: Kind, size: usize, repetitions: usize) -> Line {
+    let recording = recording(shape, kind, size);
+    let sheet = sheet(kind);
+    let length = recording.len();
+    let mut outs = [vec![0; length], vec![0; length], vec![0; length]];
+    let [export_out, second_out, copy_out] = &mut outs;
+    let mut export = || {
+        export_step(&recording, &sheet, &mut [0; STATE_WORDS], export_out);
+    };
+    let mut second = || second_step(&recording, &sheet, &mut State::new(), second_out);
+    let mut copy = || {
+        export_write(&recording, &sheet, copy_out);
+    };
+    let medians = medians(repetitions, [&mut export, &mut second, &mut copy]);
+    assert!(outs[0] == outs[1] && outs[0] == outs[2], "the step and the copies differ");
+    let name = format!("step, {}, {}", shape_name(shape), kind_name(kind));
+    Line { name, bytes: length, medians }
+}
+
+/// Times a run of so many steps, each over 64 KiB of 16 ids, beside a plain copy
+/// of the bytes consumed.
+fn time_run(shape: Shape, steps: usize, repetitions: usize) -> Line {
+    let recording = recording(shape, Kind::ManyIds, 65_536);
+    let sheet = sheet(Kind::ManyIds);
+    let length = recording.len();
+    let mut outs = [vec![0; length], vec![0; length], vec![0; length]];
+    let [export_out, second_out, target] = &mut outs;
+    let mut export = || {
+        let mut state = [0; STATE_WORDS];
+        for _ in 0..steps {
+            export_step(&recording, &sheet, &mut state, export_out);
+        }
+    };
+    let mut second = || {
+        let mut state = State::new();
+        for _ in 0..steps {
+            second_step(&recording, &sheet, &mut state, second_out);
+        }
+    };
+    let mut plain = || {
+        for _ in 0..steps {
+            memcpy(&recording, target);
+        }
+    };
+    let medians = medians(repetitions, [&mut export, &mut second, &mut plain]);
+    assert!(outs[0] == outs[1], "the last steps of the two runs differ");
+    Line { name: format!("run, {}", shape_name(shape)), bytes: steps * length, medians }
 }
 
 /// Purges with the export, and gives the bytes in use.

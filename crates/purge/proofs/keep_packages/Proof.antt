@@ -9,14 +9,14 @@ use Rattle.message.specs.declared.PackageRead.the-variants as P
 use Rattle.message.specs.Answers.{toldPackage}
 use Rattle.rules.specs.Bytes.{Bytes}
 use Rattle.rules.specs.Walk.{packageAt}
-use Rattle.release.specs.Parts.{sheetOf, messageBy}
+use Rattle.numbered.specs.Parts.{sheetOf, messageBy}
 use Rattle.purge.proofs.Sliding.{Sliding, slide-start, slide-ended, slide-stopped, slide-standing, behind, slide-on, slide-still, slide-next}
 use Rattle.purge.proofs.keep_packages.Statement.{statement}
 use Rattle.purge.proofs.keep_packages.Tie as tie
 use Rattle.purge.proofs.keep_packages.Reads as reads
 use Rattle.purge.proofs.keep_packages.Lts as lts
 use Rattle.message.proofs.package_at.Reads as package-at
-use Rattle.release.proofs.is_granted.Reads as is-granted
+use Rattle.numbered.proofs.is_granted.Reads as is-granted
 use Rattle.purge.proofs.keep_unless.Reads as keep-unless
 
 abbrev Inv-loop : tie.InvT-loop

@@ -4,8 +4,8 @@ use mathlib.Core.List.{List}
 use Rattle.rules.specs.Outcome.{good}
 use Rattle.rules.specs.Sheet as rows
 use Rattle.message.specs.Answers.{toldCheck}
-use Rattle.release.specs.Parts.{sheetOf}
-use Rattle.release.proofs.Whole.{sheet-read, sheet-bad}
+use Rattle.numbered.specs.Parts.{sheetOf}
+use Rattle.numbered.proofs.Whole.{sheet-read, sheet-bad}
 use Rattle.purge.proofs.Answers.{sheet-refused, recording-refused, short, used, all-done}
 use borrow.Author.Needs.{needs}
 use Rattle.purge.proofs.purge.Statement.{statement}

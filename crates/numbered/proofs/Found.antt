@@ -1,0 +1,184 @@
+-- What a package and a message that were read say of the bytes where they stand.
+use Prim.Native.Nat.{ℕ, zero, suc, _+_, _-_, _≤_, _<_}
+use mathlib.Core.Path.{_≡_, refl, sym, ap, _∙_}
+use mathlib.Core.Logic.{⊎-elim}
+use mathlib.Core.Bool.{Bool, true, false}
+use mathlib.Core.List.{List, [], _∷_}
+use mathlib.Core.Option.{Option, none, some}
+use native.Mathlib.Omega.{arith}
+use lib.Dec.{leb}
+use lib.ListN.{length, take, drop, length-drop}
+use lib.Seq.{take-take, drop-drop, length-take-le}
+use borrow.Author.Tests.{lt-leb, not-false, le-ltb}
+use Rattle.rules.specs.Outcome.{Outcome, good, bad, _>>=_}
+use Rattle.rules.specs.Bytes.{at, half, word, pad, part}
+use Rattle.rules.specs.Packages.{piece, packageOf, pieceOf, Piece}
+use Rattle.rules.proofs.Outcomes.{pass, passed, stepped, good-inj, good≢bad, refused-step}
+use Rattle.rules.proofs.Cut.{Fit, fit, piece-of}
+use Rattle.rules.proofs.Pieces.{length-padded}
+use Rattle.refusal.specs.declared.Refusal.{Refusal}
+use Rattle.refusal.specs.Numbers.{numberOf}
+use Rattle.message.specs.declared.Package.{Package}
+use Rattle.message.specs.declared.PackageRead.the-variants as P
+use Rattle.message.specs.Answers.{toldPackage}
+use Rattle.rules.specs.Walk.{PackageSpot, packageSpot, packageAt}
+use Rattle.numbered.specs.Parts.{pieceAs, Placed}
+
+-- ---- one package
+
+-- what is taken from t
+pub record Taken (t c : List ℕ) (n : ℕ) : Type 0 where
+  pub fits : Fit t
+  pub bytes : c ≡ take (pad (half t 4)) t
+  pub size : n ≡ pad (half t 4)
+
+pub taken : (p : ℕ) (t : List ℕ) (r : List ℕ × ℕ) → piece p t ≡ good r → Taken t (r .0) (r .1)
+unfolding piece
+taken p t r e =
+    let (a, g) = passed _ _ _ _ e in
+    let q = good-inj g in
+    record {
+      fits = fit t (not-false _ a);
+      bytes = ap (λ (x : List ℕ × ℕ). x .0) (sym q);
+      size = ap (λ (x : List ℕ × ℕ). x .1) (sym q);
+    }
+
+-- the package p was read at place k of run, from the piece c
+pub record Found (run : List ℕ) (k : ℕ) (p : Package) : Type 0 where
+  pub c : List ℕ
+  pub n : ℕ
+  pub read : piece k (drop k run) ≡ good (c, n)
+  pub spot : packageSpot k c n ≡ record { id = p .id .0; size = p .length; status = p .status; delta = p .delta; from = p .from; to = p .to; next = p .next }
+
+some-inj : {A : Type 0} {a b : A} → _≡_ {A = Option A} (some a) (some b) → a ≡ b
+some-inj e = cc
+
+none≢some : {A : Type 0} {a : A} → _≡_ {A = Option A} none (some a) → ⊥
+none≢some e = let z : _≡_ {A = ℕ} 0 1 = cc in omega arith
+
+module _ (run : List ℕ) (k : ℕ) where
+  abbrev Rest : Bool → Outcome (Option PackageSpot)
+  Rest b = elim b [
+    | true ↦ good none
+    | false ↦ piece k (drop k run) >>= (λ (r : List ℕ × ℕ). good (some (packageSpot k (r .0) (r .1))))
+  ]
+
+  pub found : (p : Package) → toldPackage (P.Package p) ≡ packageAt run k → Found run k p
+  unfolding packageAt
+  found p e = let (large, g) = passed _ _ _ _ (sym e) in go (leb (length run) k) g
+    where
+      go : (b : Bool) → Rest b ≡ toldPackage (P.Package p) → Found run k p
+      go true g = absurd (none≢some (good-inj g))
+      go false g =
+          let (r, q, f) = stepped _ _ g in
+          record { c = r .0; n = r .1; read = q; spot = some-inj (good-inj f) }
+
+  module _ (small : length run ≤ 65536) (inside : k < length run) where
+    rest-is : packageAt run k ≡ Rest false
+    unfolding packageAt
+    rest-is = pass _ _ _ _ (le-ltb 65536 (length run) small) (rw (lt-leb (length run) k inside))
+
+    -- there is no end before the end
+    pub no-end : toldPackage P.End ≡ packageAt run k → ⊥
+    no-end e =
+        let (r, q, f) = stepped _ _ (sym rest-is ∙ sym e) in
+        none≢some (sym (good-inj f))
+
+    -- a package that is refused
+    pub no-piece : (f : Refusal) → toldPackage (P.Refused f) ≡ packageAt run k → piece k (drop k run) ≡ bad (numberOf (f .why)) (f .place)
+    no-piece f e = ⊎-elim (λ b. b) (λ w. absurd (good≢bad (sym (w .2)))) (refused-step _ _ (sym rest-is ∙ sym e))
+
+take-drop-take : (a m n : ℕ) (l : List ℕ) → a + m ≤ n → take m (drop a (take n l)) ≡ take m (drop a l)
+take-drop-take zero m n l h = take-take m n l (omega arith)
+take-drop-take (suc a) m zero l h = absurd (omega arith)
+take-drop-take (suc a) m (suc n) [] h = refl
+take-drop-take (suc a) m (suc n) (x ∷ l) h = take-drop-take a m n l (omega arith)
+
+module _ (run : List ℕ) (k : ℕ) (p : Package) (f : Found run k p) where
+  abbrev t : List ℕ
+  t = drop k run
+
+  is-taken : Taken t (f .c) (f .n)
+  is-taken = taken k t (f .c, f .n) (f .read)
+
+  pub is-piece : Piece (f .c)
+  is-piece = rw (is-taken .bytes) (piece-of t (is-taken .fits))
+
+  pub piece-size : f .n ≡ pad (half (f .c) 4)
+  piece-size =
+      let l : length (f .c) ≡ pad (half t 4) = rw (is-taken .bytes) (length-take-le (pad (half t 4)) t (is-taken .fits .room)) in
+      is-taken .size ∙ sym l ∙ is-piece .whole
+
+  pub id-is : word (f .c) 0 ≡ p .id .0
+  unfolding packageSpot
+  id-is = ap (λ (x : PackageSpot). x .id) (f .spot)
+
+  length-is : half (f .c) 4 ≡ p .length
+  unfolding packageSpot
+  length-is = ap (λ (x : PackageSpot). x .size) (f .spot)
+
+  status-is : at (f .c) 7 ≡ p .status
+  unfolding packageSpot
+  status-is = ap (λ (x : PackageSpot). x .status) (f .spot)
+
+  pub delta-is : word (f .c) 8 ≡ p .delta
+  unfolding packageSpot
+  delta-is = ap (λ (x : PackageSpot). x .delta) (f .spot)
+
+  from-is : k + 12 ≡ p .from
+  unfolding packageSpot
+  from-is = ap (λ (x : PackageSpot). x .from) (f .spot)
+
+  to-is : k + half (f .c) 4 ≡ p .to
+  unfolding packageSpot
+  to-is = ap (λ (x : PackageSpot). x .to) (f .spot)
+
+  pub next-is : k + f .n ≡ p .next
+  unfolding packageSpot
+  next-is = ap (λ (x : PackageSpot). x .next) (f .spot)
+
+  pub least : 12 ≤ f .n
+  least = omega (arith, piece-size, is-piece .least)
+
+  pub within : k + f .n ≤ length run
+  within = omega (arith, is-taken .fits .room, is-taken .fits .header, is-taken .size, length-drop k run)
+
+  pub on : k < p .next
+  on = omega (arith, next-is, least)
+
+  pub still : p .next ≤ length run
+  still = omega (arith, next-is, within)
+
+  pub placed : length run ≤ 65536 → Placed run k p
+  placed l = record {
+    front = omega (arith, from-is);
+    content = omega (arith, from-is, to-is, is-piece .least);
+    padding = omega (arith, to-is, next-is, piece-size);
+    inside = still;
+    short = l;
+  }
+
+  content-is : part (p .from) (p .from + (p .to - p .from)) run ≡ part 12 (half (f .c) 4) (f .c)
+  content-is =
+      let m : p .from + (p .to - p .from) - p .from ≡ half (f .c) 4 - 12 = omega (arith, from-is, to-is, is-piece .least) in
+      let d : drop (p .from) run ≡ drop 12 t = rw (← from-is, drop-drop) in
+      let z : half (f .c) 4 - 12 ≤ pad (half t 4) - 12 = omega (arith, is-taken .size, piece-size) in
+      rw (m, d) (sym (ap (λ (s : List ℕ). take (half (f .c) 4 - 12) (drop 12 s)) (is-taken .bytes)
+      ∙ take-drop-take 12 (half (f .c) 4 - 12) (pad (half t 4)) t (omega (arith, is-taken .size, piece-size, is-piece .least))))
+
+  content-size : 12 + length (part 12 (half (f .c) 4) (f .c)) ≡ half (f .c) 4
+  content-size =
+      omega (arith, length-take-le (half (f .c) 4 - 12) (drop 12 (f .c)) (omega (arith, length-drop 12 (f .c), is-piece .least, is-piece .whole)), is-piece .least)
+
+  pub piece-is : pieceAs run p ≡ pieceOf (packageOf (f .c))
+  unfolding pieceAs pieceOf packageOf
+  piece-is =
+      let l : 12 + length (part 12 (half (f .c) 4) (f .c)) ≡ half (f .c) 4 = content-size in
+      let z : p .next - p .to ≡ pad (length (part 12 (half (f .c) 4) (f .c))) - length (part 12 (half (f .c) 4) (f .c)) = omega (arith, next-is, to-is, piece-size) in
+      rw (content-is, z, l, ← id-is, ← length-is, ← status-is, ← delta-is)
+
+  pub piece-length : length (pieceOf (packageOf (f .c))) ≡ f .n
+  unfolding pieceOf packageOf
+  piece-length =
+      let l : 12 + length (part 12 (half (f .c) 4) (f .c)) ≡ half (f .c) 4 = content-size in
+      omega (arith, length-padded (part 12 (half (f .c) 4) (f .c)), piece-size)

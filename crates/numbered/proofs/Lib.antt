@@ -1,0 +1,19 @@
+-- What the functions of the copy keep: what they store, the messages that are taken, the ids that are counted, the numbers that go on, and each answer.
+pub mod Seeking
+pub mod Numbers
+pub mod States
+pub mod Messages
+pub mod Ids
+pub mod First
+pub mod Stores
+pub mod Found
+pub mod Packages
+pub mod Entries
+pub mod Held
+pub mod Taking
+pub mod Seating
+pub mod Tally
+pub mod Written
+pub mod Twice
+pub mod Whole
+pub mod Same

@@ -1,0 +1,99 @@
+-- Runs of stores: one behind the other, and one before another.
+use Prim.Native.Nat.{ℕ, suc, _+_, _-_, _*_, _/_, _%_, _<_}
+use mathlib.Core.Path.{_≡_, refl, sym, ap, _∙_}
+use mathlib.Core.List.{List, [], _∷_, _++_}
+use native.Mathlib.Nat.{add-zero, add-suc, suc-add, div-div-eq-div-mul}
+use native.Mathlib.Omega.{arith}
+use lib.ListN.{length, drop, set, replicate, length-drop}
+use lib.Seq.{sets, set-comm, length-take-le}
+use Rattle.rules.specs.Bytes.{put16, put32, part}
+use Rattle.rules.proofs.Loops.{sets-sets}
+use Rattle.message.specs.declared.Header.{Header}
+use Rattle.message.specs.declared.Package.{Package}
+use Rattle.numbered.specs.Parts.{headBytes, pieceAs, Placed}
+
+-- a store before a run of stores can be made behind it
+set-sets : (ys b : List ℕ) (i j x : ℕ) → i < j → set (sets b j ys) i x ≡ sets (set b i x) j ys
+set-sets [] b i j x l = refl
+set-sets (y ∷ ys) b i j x l = set-sets ys (set b j y) i (suc j) x (omega arith) ∙ ap (λ (c : List ℕ). sets c (suc j) ys) (set-comm b j i y x (λ e. omega arith))
+
+pub sets-before : (xs ys b : List ℕ) (i : ℕ) → sets (sets b (i + length xs) ys) i xs ≡ sets b i (xs ++ ys)
+sets-before [] ys b i = rw add-zero
+sets-before (x ∷ xs) ys b i = rw (add-suc, ← suc-add) (ap (λ (c : List ℕ). sets c (suc i) xs) (set-sets ys b i (suc i + length xs) x (omega arith)) ∙ sets-before xs ys (set b i x) (suc i))
+
+-- two words, one behind the other
+pub words-all : (b : List ℕ) (at x y : ℕ) {b1 b2 : List ℕ} → b1 ≡ sets b at (put32 x []) → b2 ≡ sets b1 (at + 4) (put32 y []) → b2 ≡ sets b at (put32 x (put32 y []))
+words-all b at x y e1 e2 = rw (e2, e1, sets-sets (put32 x []) (put32 y []) b at)
+
+-- a package's length, a zero and its status as one word
+length-status : (l s : ℕ) (t : List ℕ) → l < 65536 → s < 256 → put32 (l * 65536 + s) t ≡ put16 l (0 ∷ s ∷ t)
+length-status l s t a b =
+    let w = l * 65536 + s in
+    let q : w / 65536 ≡ l = omega arith in
+    let d : w / 65536 / 256 ≡ w / 16777216 = div-div-eq-div-mul w 65536 256 in
+    let e : w / 16777216 ≡ l / 256 = omega arith in
+    let f : w / 256 % 256 ≡ 0 = omega arith in
+    let g : w % 256 ≡ s = omega arith in
+    rw (e, q, f, g)
+
+-- the stores of a package
+module _ (run : List ℕ) (p : Package) (b : List ℕ) (at : ℕ) (in-place : Placed run 0 p) (half : p .length < 65536) (byte : p .status < 256) {b1 b2 b3 b4 : List ℕ}
+    (e1 : b1 ≡ sets b at (put32 (p .id .0) (put32 (p .length * 65536 + p .status) []))) (e2 : b2 ≡ sets b1 (at + 8) (put32 (p .delta) []))
+    (e3 : b3 ≡ sets b2 (at + 12) (part (p .from) (p .from + (p .to - p .from)) run))
+    (e4 : b4 ≡ sets b3 (at + 12 + (p .to - p .from)) (replicate (p .next - p .to) 0)) where
+  abbrev content : List ℕ
+  content = part (p .from) (p .from + (p .to - p .from)) run
+
+  abbrev zeros : List ℕ
+  zeros = replicate (p .next - p .to) 0
+
+  -- what is stored before the content, with t behind it
+  abbrev front : List ℕ → List ℕ
+  front t = put32 (p .id .0) (put32 (p .length * 65536 + p .status) (put32 (p .delta) t))
+
+  length-content : p .to - p .from ≡ length content
+  length-content =
+      let n : p .from + (p .to - p .from) - p .from ≡ p .to - p .from = omega arith in
+      sym (rw n (length-take-le (p .to - p .from) (drop (p .from) run) (omega (arith, length-drop (p .from) run, in-place .padding, in-place .inside))))
+
+  stored : b4 ≡ sets b at (front (content ++ zeros))
+  stored =
+      let q : at + 12 + (p .to - p .from) ≡ at + length (front content) = omega (arith, length-content) in
+      e4 ∙ rw (
+        q,
+        e3,
+        e2,
+        e1,
+        sets-sets (put32 (p .id .0) (put32 (p .length * 65536 + p .status) [])) (put32 (p .delta) []) b at,
+        sets-sets (front []) content b at,
+        sets-sets (front content) zeros b at,
+      )
+
+  pub package-all : b4 ≡ sets b at (pieceAs run p)
+  unfolding pieceAs
+  package-all = stored ∙ ap (λ (t : List ℕ). sets b at (put32 (p .id .0) t)) (length-status (p .length) (p .status) (put32 (p .delta) (content ++ zeros)) half byte)
+
+-- a header's first byte, two zeros and its flags as one word
+front-flags : (f : ℕ) (t : List ℕ) → f < 256 → put32 (268435456 + f) t ≡ 16 ∷ 0 ∷ 0 ∷ f ∷ t
+front-flags f t h =
+    let w = 268435456 + f in
+    let a : w / 16777216 % 256 ≡ 16 = omega arith in
+    let b : w / 65536 % 256 ≡ 0 = omega arith in
+    let c : w / 256 % 256 ≡ 0 = omega arith in
+    let d : w % 256 ≡ f = omega arith in
+    rw (a, b, c, d)
+
+-- the stores of a header
+module _ (b : List ℕ) (at : ℕ) (h : Header) (n size : ℕ) {b1 b2 b3 : List ℕ}
+    (e1 : b1 ≡ sets b at (put32 (268435456 + (192 + h .flags / 2 % 8 * 2)) (put32 (h .id .0) [])))
+    (e2 : b2 ≡ sets b1 (at + 8) (put32 n (put32 size []))) (e3 : b3 ≡ sets b2 (at + 16) (put32 (h .seconds) (put32 (h .nanos) []))) where
+  abbrev flags : ℕ
+  flags = 192 + h .flags / 2 % 8 * 2
+
+  pub head-all : b3 ≡ sets b at (headBytes h n size)
+  unfolding headBytes
+  head-all =
+      let front = put32 (268435456 + flags) (put32 (h .id .0) []) in
+      let middle = put32 n (put32 size []) in
+      rw (e3, e2, e1, sets-sets front middle b at, sets-sets (front ++ middle) (put32 (h .seconds) (put32 (h .nanos) [])) b at)
+      (ap (λ (t : List ℕ). sets b at t) (front-flags flags (put32 (h .id .0) (put32 n (put32 size (put32 (h .seconds) (put32 (h .nanos) []))))) (omega arith)))

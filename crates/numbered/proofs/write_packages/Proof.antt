@@ -1,0 +1,123 @@
+-- `numbered::write_packages` meets its contract: in the loop the granted packages before `at` are stored.
+use borrow.Author.Needs.{needs}
+use mathlib.Core.Path.{_≡_, refl, sym, ap, _∙_}
+use Prim.Native.Nat.{_-_, _≤_}
+use native.Mathlib.Omega.{arith}
+use lib.ListN.{length}
+use lib.Seq.{length-sets}
+use Rattle.message.specs.declared.Package.{Package}
+use Rattle.message.specs.declared.PackageRead.the-variants as P
+use Rattle.message.specs.Answers.{toldPackage}
+use Rattle.rules.specs.Walk.{packageAt}
+use Rattle.numbered.specs.Parts.{sheetOf, messageBy}
+use Rattle.numbered.proofs.Found.{Found, found, on, still}
+use Rattle.numbered.proofs.Packages.{Storing, store-start, store-ended, store-stopped, store-placed, store-next}
+use Rattle.numbered.proofs.write_packages.Statement.{statement}
+use Rattle.numbered.proofs.write_packages.Tie as tie
+use Rattle.numbered.proofs.write_packages.Reads as reads
+use Rattle.numbered.proofs.write_packages.Lts as lts
+use Rattle.message.proofs.package_at.Reads as package-at
+use Rattle.numbered.proofs.is_granted.Reads as is-granted
+use Rattle.numbered.proofs.write_granted.Reads as write-granted
+
+abbrev Inv-loop : tie.InvT-loop
+Inv-loop run h rows n out₀ to end₀ at₀ out end at = (length run ≤ 65536) × (length out ≡ length out₀) × Storing (sheetOf rows n) (messageBy h) run out₀ out to end at
+
+abbrev μ-loop : tie.MeasureT-loop
+μ-loop run h rows n out₀ to end₀ at₀ out end at = length run - at
+
+-- a package was read
+abbrev Read : Type 0
+Read = lts.After-known-told (package-at.Asked, package-at.Learnt, is-granted.Asked, is-granted.Learnt, write-granted.Asked, write-granted.Learnt) reads.Pre reads.Post Inv-loop μ-loop
+
+abbrev which : Read → Package
+which c = c .before .found .given .0 .0
+
+read : (c : Read) → toldPackage (P.Package (which c)) ≡ packageAt (c .before .before .before .before .before .before .before .before .args .run .now) (c .before .before .before .before .before .loop .at)
+read c = ap toldPackage (sym (c .before .found .given .1)) ∙ c .before .before .before .package-at .ensures
+
+place : (c : Read) → Found (c .before .before .before .before .before .before .before .before .args .run .now) (c .before .before .before .before .before .loop .at) (which c)
+place c = found (c .before .before .before .before .before .before .before .before .args .run .now) (c .before .before .before .before .before .loop .at) (which c) (read c)
+
+loop-holds : tie.Need-loop-holds Inv-loop μ-loop
+loop-holds c =
+    let a = c .before .before .args in
+    (search needs, refl, store-start (a .rows) (a .n) (a .h) (a .run .now) (a .out .now) (a .to) (search needs))
+
+package-at-requires : tie.Need-package-at-requires Inv-loop μ-loop
+package-at-requires c κs = search needs
+
+enum-known-found : tie.Need-enum-known-found Inv-loop μ-loop
+enum-known-found c = search needs
+
+sub-result : tie.Need-sub-result Inv-loop μ-loop
+sub-result c = c .before .before .before .loop .inv .2 .least
+
+same-length : tie.Need-same-length Inv-loop μ-loop
+same-length c = search needs
+
+returns : tie.Need-returns Inv-loop μ-loop
+returns c =
+    let v = c .before .before .before .loop in
+    let a = c .before .before .before .before .before .before .args in
+    store-stopped (a .rows) (a .n) (a .h) (a .run .now) (a .out .now) (a .to) (v .inv .0) (v .out) (v .end) (v .at) (v .inv .2) (search needs) (c .before .package-at .result) (c .match .keys2) (c .before .package-at .ensures)
+
+is-granted-requires : tie.Need-is-granted-requires Inv-loop μ-loop
+is-granted-requires c κs = search needs
+
+write-granted-requires : tie.Need-write-granted-requires Inv-loop μ-loop
+write-granted-requires c κs =
+    let r = c .before .before in
+    let v = r .before .before .before .before .before .loop in
+    let a = r .before .before .before .before .before .before .before .before .args in
+    let i = v .inv .2 in
+    (omega (arith, i .most, i .keeping .inside), store-placed (a .rows) (a .n) (a .h) (a .run .now) (a .out .now) (a .to) (v .inv .0) (v .out) (v .end) (v .at) (v .inv .2) (search needs) (which r) (read r))
+
+loop-less : tie.Need-loop-less Inv-loop μ-loop
+loop-less c =
+    let r = c .before .before .before .before .before in
+    let v = r .before .before .before .before .before .loop in
+    let a = r .before .before .before .before .before .before .before .before .args in
+    omega (arith, on (a .run .now) (v .at) (which r) (place r), still (a .run .now) (v .at) (which r) (place r))
+
+loop-again : tie.Need-loop-again Inv-loop μ-loop
+loop-again c =
+    let w = c .before .before .write-granted in
+    let g = c .before .before .before .before .is-granted in
+    let r = c .before .before .before .before .before in
+    let v = r .before .before .before .before .before .loop in
+    let a = r .before .before .before .before .before .before .before .before .args in
+    let i = store-next (a .rows) (a .n) (a .h) (a .run .now) (a .out .now) (a .to) (v .inv .0) (v .out) (v .end) (v .at) (v .inv .2) (search needs) (which r) (read r) (g .result) (g .ensures) _ _ (w .ensures) in
+    (search needs, ap length (i .stored) ∙ simp length-sets, i)
+
+sub-result-2 : tie.Need-sub-result-2 Inv-loop μ-loop
+sub-result-2 c = c .before .loop .inv .2 .least
+
+same-length-2 : tie.Need-same-length-2 Inv-loop μ-loop
+same-length-2 c = search needs
+
+returns-2 : tie.Need-returns-2 Inv-loop μ-loop
+returns-2 c =
+    let v = c .before .loop in
+    let a = c .before .before .before .before .args in
+    store-ended (a .rows) (a .n) (a .h) (a .run .now) (a .out .now) (a .to) (v .inv .0) (v .out) (v .end) (v .at) (v .inv .2) (search needs)
+
+pub write-packages-spec : {M : Type 1} → statement M
+write-packages-spec =
+    tie.close
+    (tie.spec
+    Inv-loop
+    μ-loop
+    loop-holds
+    package-at-requires
+    enum-known-found
+    sub-result
+    same-length
+    returns
+    is-granted-requires
+    write-granted-requires
+    loop-less
+    loop-again
+    sub-result-2
+    same-length-2
+    returns-2)

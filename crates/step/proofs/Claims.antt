@@ -1,0 +1,99 @@
+-- Each claim, proved by the laws.
+use Prim.Native.Nat.{ℕ}
+use mathlib.Core.Path.{_≡_, refl, ap, sym, _∙_}
+use mathlib.Core.List.{List}
+use native.Mathlib.Omega.{arith}
+use lib.ListN.{length, take}
+use lib.Seq.{take-all}
+use Rattle.rules.specs.Outcome.{Outcome, good, bad}
+use Rattle.rules.specs.Items.{items}
+use Rattle.rules.specs.Message.{message}
+use Rattle.rules.specs.Copy.{Entry}
+use Rattle.rules.proofs.Outcomes.{good-inj}
+use Rattle.numbered.specs.Numbering.{runningIn}
+use Rattle.numbered.specs.Quota.{delivering, numberedCopy}
+use Rattle.numbered.proofs.Numbers.{next-after, numbered-injective}
+use Rattle.numbered.proofs.First.{first-copies}
+use Rattle.step.specs.Step.{step, output}
+use Rattle.step.specs.Claims.{StateFits, releasedOfAny, StepKeeps, StepHandles, StepNotLonger, QuotaZero, NumbersTrue, StepIds, StepRoom, FirstStepCopies, Run, RunPasses, RunCopies, RunAsOne, RunRead, SameOutputs, DifferentOutputs, WindowCut, RefusalFinal}
+use Rattle.step.proofs.States.{running-low}
+use Rattle.step.proofs.Steps.{done, kept-state, unused-reported, careful-reported, handles}
+use Rattle.step.proofs.Ids.{ids-exactly, room-refused, none-taken}
+use Rattle.step.proofs.Runs as Runs
+use Rattle.step.proofs.Windows.{cut-window}
+use Rattle.rules.proofs.Final.{final}
+use Rattle.step.specs.Table.{Table}
+use Rattle.step.proofs.Table.{table}
+
+pub step-keeps : StepKeeps
+unfolding numberedCopy
+step-keeps = record {
+  unused = λ input sheet quota state buffer. unused-reported state buffer (delivering 64 input sheet quota state buffer);
+  state = λ input sheet quota state buffer. kept-state state buffer (delivering 64 input sheet quota state buffer);
+  buffer = λ input sheet quota state buffer. careful-reported state buffer (delivering 64 input sheet quota state buffer);
+}
+
+pub step-handles : StepHandles
+step-handles input sheet quota state buffer fits e = handles input sheet quota state buffer fits (done input sheet quota state buffer e)
+
+pub step-not-longer : StepNotLonger
+step-not-longer input sheet quota state buffer fits b e = Runs.not-longer input sheet quota state buffer fits b (done input sheet quota state buffer e)
+
+pub quota-zero : QuotaZero
+quota-zero = none-taken
+
+pub numbers-true : NumbersTrue
+numbers-true state fits es x = next-after x es (running-low state fits)
+
+pub step-ids : StepIds
+step-ids input sheetBytes quota state buffer rows taken fits b v l t = ids-exactly input sheetBytes quota state buffer rows taken b v l t fits
+
+pub step-room : StepRoom
+step-room input sheetBytes quota state buffer rows taken fits b v l t = room-refused input sheetBytes quota state buffer rows taken b v l t
+
+pub first-step-copies : FirstStepCopies
+first-step-copies input sheet quota state buffer none above not-ids = first-copies 64 input sheet quota state buffer none above not-ids
+
+pub table-holds : Table
+table-holds = table
+
+pub run-passes : RunPasses
+run-passes sheetBytes state end all joined fits run = Runs.run-passes sheetBytes fits run
+
+pub run-copies : RunCopies
+run-copies sheetBytes state end all joined fits run = Runs.run-copies sheetBytes fits run
+
+pub run-as-one : RunAsOne
+run-as-one sheetBytes state end all joined fits run quota buffer e whole =
+    let h = handles all sheetBytes quota state buffer fits (done all sheetBytes quota state buffer e) in
+    let list : releasedOfAny all sheetBytes ≡ good (h .entries) = ap (λ (l : List ℕ). releasedOfAny l sheetBytes) (sym (ap (λ (k : ℕ). take k all) whole ∙ take-all (length all) all (omega arith))) ∙ h .list in
+    let r = Runs.run-copies sheetBytes fits run (h .entries) list in
+    (r .0 ∙ sym (h .copied), r .1 ∙ sym (h .numbers))
+
+pub run-read : RunRead
+run-read sheetBytes state end all joined fits b run es list = Runs.run-read sheetBytes fits run es list b
+
+pub same-outputs : SameOutputs
+same-outputs sheet sheet′ state end end′ all all′ joined joined′ fits run run′ same = go (releasedOfAny all sheet) refl
+  where
+    go : (o : Outcome (List Entry)) → releasedOfAny all sheet ≡ o → (joined ≡ joined′) × (runningIn end ≡ runningIn end′)
+    go (good es) e =
+        let a = Runs.run-copies sheet fits run es e in
+        let b = Runs.run-copies sheet′ fits run′ es (sym same ∙ e) in
+        (a .0 ∙ sym (b .0), a .1 ∙ sym (b .1))
+    go (bad n p) e =
+        let a = Runs.run-none sheet fits run n p e in
+        let b = Runs.run-none sheet′ fits run′ n p (sym same ∙ e) in
+        (a .0 ∙ sym (b .0), a .1 ∙ sym (b .1))
+
+pub different-outputs : DifferentOutputs
+different-outputs sheet sheet′ state end end′ all all′ joined joined′ fits b b′ run run′ es es′ list list′ differ same =
+    let a = Runs.run-read sheet fits run es list b in
+    let a′ = Runs.run-read sheet′ fits run′ es′ list′ b′ in
+    differ (numbered-injective (runningIn state) es es′ (good-inj (sym a ∙ ap (items message 0 0) same ∙ a′)))
+
+pub window-cut : WindowCut
+window-cut = cut-window
+
+pub refusal-final : RefusalFinal
+refusal-final = final

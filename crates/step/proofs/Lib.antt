@@ -1,0 +1,10 @@
+-- The laws of the steps and the proofs of the claims.
+pub mod States
+pub mod Ids
+pub mod Steps
+pub mod Runs
+pub mod Table
+pub mod Windows
+pub mod Claims
+pub mod Whole
+pub mod Same

@@ -1,0 +1,18 @@
+-- A step is the copy that is numbered on, where 64 ids may be held.
+use Prim.Native.Nat.{ℕ}
+use mathlib.Core.Path.{_≡_, refl, ap, sym, _∙_}
+use mathlib.Core.Bool.{false}
+use mathlib.Core.List.{List}
+use native.Mathlib.Omega.{arith}
+use Rattle.numbered.specs.Numbering.{State}
+use Rattle.numbered.specs.Quota.{Report, numberedCopy, settled, shorter, mostIn}
+use Rattle.numbered.proofs.Whole.{most-narrow}
+use Rattle.step.specs.Step as spec
+
+most-is : (m n held : ℕ) → m ≡ 64 → n ≡ 64 → mostIn (shorter m n) held ≡ 64
+most-is m n held a b = ap (λ (k : ℕ). mostIn (shorter k n) held) a ∙ ap (λ (k : ℕ). mostIn (shorter 64 k) held) b ∙ sym (most-narrow 64 held (omega arith))
+
+pub stepped : (m n held : ℕ) → m ≡ 64 → n ≡ 64 → (input sheetBytes : List ℕ) (quota : ℕ) (state : State) (buffer : List ℕ) (x : Report × State × List ℕ)
+    → x ≡ settled false (mostIn (shorter m n) held) input sheetBytes quota state buffer → x ≡ spec.step input sheetBytes quota state buffer
+unfolding settled
+stepped m n held a b input sheetBytes quota state buffer x e = e ∙ ap (λ (k : ℕ). numberedCopy k input sheetBytes quota state buffer) (most-is m n held a b)

@@ -1,0 +1,170 @@
+-- The demands of document 02, A10, as statements, to be read without any proof. proofs/Claims.antt proves each.
+use Prim.Native.Nat.{ℕ, zero, _+_, _%_, _^_, _≤_, _<_}
+use mathlib.Core.Path.{_≡_}
+use mathlib.Core.Bool.{false}
+use mathlib.Core.Logic.{_⊎_}
+use mathlib.Core.List.{List, [], _∷_, _++_, map}
+use lib.ListN.{length, getD, take, drop}
+use Rattle.rules.specs.Outcome.{Outcome, good, bad, _>>=_, SHORT, CUT, ROOM}
+use Rattle.refusal.specs.Numbers.{IDS}
+use Rattle.rules.specs.Bytes.{Bytes}
+use Rattle.rules.specs.Items.{items, count}
+use Rattle.rules.specs.Message.{mostBytes, Message, message}
+use Rattle.rules.specs.Sheet.{Row, sheet}
+use Rattle.rules.specs.Copy.{Entry, released, packagesIn, copy}
+use Rattle.rules.specs.Claims.{Careful}
+use Rattle.numbered.specs.Numbering.{Running, nextNumber, numbersAfter, numberedMessages, numberedBytes, State, runningIn}
+use Rattle.numbered.specs.Quota.{mostIds, badState, Taken, takenFrom, messageOf, bytesTaken, Report, asCopy}
+use Rattle.step.specs.Step.{step, output, consumed}
+
+-- the numbers of a state fit their places: whatever a caller can hand over
+pub record StateFits (state : State) : Type 0 where
+  pub ids : length (state .ids) ≡ mostIds
+  pub next : length (state .next) ≡ mostIds
+  pub below : (k : ℕ) → getD (state .next) k 0 < 2 ^ 32
+
+-- the released list of a recording of any length, by document 01's rule
+unfoldable pub releasedOfAny : List ℕ → List ℕ → Outcome (List Entry)
+releasedOfAny recordingBytes sheetBytes = do
+  rows ← sheet sheetBytes
+  ms ← items message zero zero recordingBytes
+  good (released rows ms)
+
+-- what a report with nothing but a number and a place says
+abbrev pub nothing : ℕ → ℕ → Report
+nothing n p = record { number = n; place = p; handled = 0; consumed = 0; bytes = 0; messages = 0; packages = 0 }
+
+-- ---- One step.
+
+-- A refused step changes neither state nor buffer, and bytes behind what is written stay; so do the places of a state behind those held.
+pub record StepKeeps : Type 0 where
+  pub unused : (input sheet : List ℕ) (quota : ℕ) (state : State) (buffer : List ℕ) (k : ℕ) → step input sheet quota state buffer .1 .held ≤ k
+      → (getD (step input sheet quota state buffer .1 .ids) k 0 ≡ getD (state .ids) k 0) × (getD (step input sheet quota state buffer .1 .next) k 0 ≡ getD (state .next) k 0)
+  pub state : (input sheet : List ℕ) (quota : ℕ) (state : State) (buffer : List ℕ)
+      → (step input sheet quota state buffer .0 .number ≡ 0 → ⊥) → step input sheet quota state buffer .1 ≡ state
+  pub buffer : (input sheet : List ℕ) (quota : ℕ) (state : State) (buffer : List ℕ)
+      → Careful (step input sheet quota state buffer .0 .number) (step input sheet quota state buffer .0 .bytes) buffer (step input sheet quota state buffer .2)
+
+-- The messages handled are those that the definition takes from the input: the messages of the bytes consumed, as many as the quota or all there are.
+-- What is written is the copy of these, numbered on from the state before, with the counts of their released list; and the state after is true.
+pub record Handles (input sheetBytes : List ℕ) (quota : ℕ) (before after : State) (r : Report) (written : List ℕ) : Type 0 where
+  pub messages : List Message
+  pub read : items message zero zero (take (r .consumed) input) ≡ good messages
+  pub handled : r .handled ≡ length messages
+  pub within : r .handled ≤ quota
+  pub all : r .handled < quota → r .consumed ≡ length input
+  pub inside : r .consumed ≤ length input
+  pub entries : List Entry
+  pub list : releasedOfAny (take (r .consumed) input) sheetBytes ≡ good entries
+  pub copied : written ≡ numberedBytes (runningIn before) entries
+  pub bytes : r .bytes ≡ length written
+  pub entries-written : r .messages ≡ length entries
+  pub packages-written : r .packages ≡ packagesIn entries
+  pub numbers : runningIn after ≡ numbersAfter (runningIn before) entries
+
+abbrev pub StepHandles : Type 0
+StepHandles = (input sheet : List ℕ) (quota : ℕ) (state : State) (buffer : List ℕ) → StateFits state → step input sheet quota state buffer .0 .number ≡ 0
+    → Handles input sheet quota state (step input sheet quota state buffer .1) (step input sheet quota state buffer .0) (output (step input sheet quota state buffer))
+
+-- What a step writes is never longer than what it consumed, so that a buffer as long as the input always has room.
+abbrev pub StepNotLonger : Type 0
+StepNotLonger = (input sheet : List ℕ) (quota : ℕ) (state : State) (buffer : List ℕ) → StateFits state → Bytes input → step input sheet quota state buffer .0 .number ≡ 0
+    → step input sheet quota state buffer .0 .bytes ≤ step input sheet quota state buffer .0 .consumed
+
+-- Quota 0 with a good state, sheet and size does nothing and reports 0.
+abbrev pub QuotaZero : Type 0
+QuotaZero = (input sheetBytes : List ℕ) (state : State) (buffer : List ℕ) → StateFits state → badState mostIds state ≡ false → (rows : List Row) → sheet sheetBytes ≡ good rows → length input ≤ mostBytes
+    → step input sheetBytes 0 state buffer ≡ (nothing 0 0, state, buffer)
+
+-- The next number of an id is the one before and one more for each entry delivered with it, modulo 2^32.
+abbrev pub NumbersTrue : Type 0
+NumbersTrue = (state : State) → StateFits state → (es : List Entry) (x : ℕ)
+    → nextNumber x (numbersAfter (runningIn state) es) ≡ (nextNumber x (runningIn state) + count x (map (λ (e : Entry). e .id) es)) % 2 ^ 32
+
+-- Where state, sheet, size and messages pass, IDS is given exactly if the state could not hold all ids, and the place is the message with which they become too many.
+pub record TooMany (rows : List Row) (ns : List Running) (taken : List Taken) (place : ℕ) : Type 0 where
+  pub before : List Taken
+  pub one : Taken
+  pub behind : List Taken
+  pub taken-are : taken ≡ before ++ one ∷ behind
+  pub is : one .place ≡ place
+  pub few : length (numbersAfter ns (released rows (map messageOf before))) ≤ mostIds
+  pub many : mostIds < length (numbersAfter ns (released rows (map messageOf (before ++ one ∷ []))))
+
+pub record IdsExactly (input sheetBytes : List ℕ) (quota : ℕ) (state : State) (buffer : List ℕ) (rows : List Row) (taken : List Taken) : Type 0 where
+  pub refused : mostIds < length (numbersAfter (runningIn state) (released rows (map messageOf taken))) → step input sheetBytes quota state buffer .0 .number ≡ IDS
+  pub place : step input sheetBytes quota state buffer .0 .number ≡ IDS → TooMany rows (runningIn state) taken (step input sheetBytes quota state buffer .0 .place)
+
+abbrev pub StepIds : Type 0
+StepIds = (input sheetBytes : List ℕ) (quota : ℕ) (state : State) (buffer : List ℕ) (rows : List Row) (taken : List Taken) → StateFits state
+    → badState mostIds state ≡ false → sheet sheetBytes ≡ good rows → length input ≤ mostBytes → takenFrom input quota ≡ good taken → IdsExactly input sheetBytes quota state buffer rows taken
+
+-- Without room the step is refused: ROOM, with the bytes needed as place.
+abbrev pub StepRoom : Type 0
+StepRoom = (input sheetBytes : List ℕ) (quota : ℕ) (state : State) (buffer : List ℕ) (rows : List Row) (taken : List Taken) → StateFits state
+    → badState mostIds state ≡ false → sheet sheetBytes ≡ good rows → length input ≤ mostBytes → takenFrom input quota ≡ good taken
+    → length (numbersAfter (runningIn state) (released rows (map messageOf taken))) ≤ mostIds
+    → length buffer < length (numberedBytes (runningIn state) (released rows (map messageOf taken)))
+    → step input sheetBytes quota state buffer ≡ (nothing ROOM (length (numberedBytes (runningIn state) (released rows (map messageOf taken)))), state, buffer)
+
+-- With no id held and a quota above all, a step is the single copy, refusals included, unless the ids are too many.
+abbrev pub FirstStepCopies : Type 0
+FirstStepCopies = (input sheet : List ℕ) (quota : ℕ) (state : State) (buffer : List ℕ) → state .held ≡ 0 → length input ≤ quota
+    → (step input sheet quota state buffer .0 .number ≡ IDS → ⊥) → asCopy (step input sheet quota state buffer) ≡ copy input sheet buffer
+
+-- ---- A run of steps under one sheet with no refusal: its first and its last state, all that was consumed, and the joined outputs.
+
+pub data Run (sheetBytes : List ℕ) : State → State → List ℕ → List ℕ → Type 0 where
+  rest : {state : State} → Run sheetBytes state state [] []
+  next : {state end : State} {all joined : List ℕ} (input : List ℕ) (quota : ℕ) (buffer : List ℕ)
+      → step input sheetBytes quota state buffer .0 .number ≡ 0
+      → Run sheetBytes (step input sheetBytes quota state buffer .1) end all joined
+      → Run sheetBytes state end (consumed input (step input sheetBytes quota state buffer) ++ all) (output (step input sheetBytes quota state buffer) ++ joined)
+
+-- All that was consumed is whole messages that pass.
+abbrev pub RunPasses : Type 0
+RunPasses = (sheetBytes : List ℕ) (state end : State) (all joined : List ℕ) → StateFits state → Run sheetBytes state end all joined
+    → (ms : List Message) × (items message zero zero all ≡ good ms)
+
+-- The joined outputs are the copy, by document 01's rule at any length, of all consumed input, numbered on from the run's first state; and the last state is true.
+abbrev pub RunCopies : Type 0
+RunCopies = (sheetBytes : List ℕ) (state end : State) (all joined : List ℕ) → StateFits state → Run sheetBytes state end all joined
+    → (es : List Entry) → releasedOfAny all sheetBytes ≡ good es
+    → (joined ≡ numberedBytes (runningIn state) es) × (runningIn end ≡ numbersAfter (runningIn state) es)
+
+-- So a run of steps is as one step over all consumed input, where one can take it.
+abbrev pub RunAsOne : Type 0
+RunAsOne = (sheetBytes : List ℕ) (state end : State) (all joined : List ℕ) → StateFits state → Run sheetBytes state end all joined
+    → (quota : ℕ) (buffer : List ℕ) → step all sheetBytes quota state buffer .0 .number ≡ 0 → step all sheetBytes quota state buffer .0 .consumed ≡ length all
+    → (joined ≡ output (step all sheetBytes quota state buffer)) × (runningIn end ≡ runningIn (step all sheetBytes quota state buffer .1))
+
+-- They are read as the messages of that copy, one behind the other.
+abbrev pub RunRead : Type 0
+RunRead = (sheetBytes : List ℕ) (state end : State) (all joined : List ℕ) → StateFits state → Bytes all → Run sheetBytes state end all joined
+    → (es : List Entry) → releasedOfAny all sheetBytes ≡ good es → items message zero zero joined ≡ good (numberedMessages (runningIn state) es)
+
+-- ---- Demand 3, of the joined outputs of two such runs from one first state, at any length.
+
+-- Equal released lists of all consumed input (or equal refusals in their place) give equal joined outputs and equal numbers in the last state,
+-- whatever else differs in recordings and sheets, and however they were cut into steps.
+abbrev pub SameOutputs : Type 0
+SameOutputs = (sheet sheet′ : List ℕ) (state end end′ : State) (all all′ joined joined′ : List ℕ) → StateFits state
+    → Run sheet state end all joined → Run sheet′ state end′ all′ joined′
+    → releasedOfAny all sheet ≡ releasedOfAny all′ sheet′ → (joined ≡ joined′) × (runningIn end ≡ runningIn end′)
+
+-- Released lists that differ give joined outputs that differ.
+abbrev pub DifferentOutputs : Type 0
+DifferentOutputs = (sheet sheet′ : List ℕ) (state end end′ : State) (all all′ joined joined′ : List ℕ) → StateFits state → Bytes all → Bytes all′
+    → Run sheet state end all joined → Run sheet′ state end′ all′ joined′
+    → (es es′ : List Entry) → releasedOfAny all sheet ≡ good es → releasedOfAny all′ sheet′ ≡ good es′ → (es ≡ es′ → ⊥) → joined ≡ joined′ → ⊥
+
+-- ---- What a program that reads a long recording window by window may rely on.
+
+-- Where the messages of a window are refused with SHORT or CUT at place p, the bytes before p are whole messages that pass, and a step takes them from these bytes alone.
+abbrev pub WindowCut : Type 0
+WindowCut = (window : List ℕ) (quota n p : ℕ) → takenFrom window quota ≡ bad n p → (n ≡ SHORT) ⊎ (n ≡ CUT)
+    → (taken : List Taken) × (takenFrom (take p window) quota ≡ good taken) × (bytesTaken taken ≡ p)
+
+-- Any other refusal of a message is final: bytes that follow change nothing of it.
+abbrev pub RefusalFinal : Type 0
+RefusalFinal = (p : ℕ) (s behind : List ℕ) (n q : ℕ) → (n ≡ SHORT → ⊥) → (n ≡ CUT → ⊥) → message p s ≡ bad n q → message p (s ++ behind) ≡ bad n q
