@@ -1,5 +1,5 @@
-/* hibernaxo: reading, checking, writing and cleaning network recordings, order sheets, the release copy, the purge,
- * bursts and ids as a line of text.
+/* hibernaxo: reading, checking, writing, cleaning and salvaging network recordings, order sheets, the release copy, the
+ * purge, bursts and ids as a line of text.
  *
  * Each function returns a refusal number, HIBERNAXO_OK for success, and stores its values on every call. values[0] is
  * always the place of the refusal, a byte offset in the input named, or what the number says below; on success it is 0.
@@ -41,7 +41,8 @@ enum hibernaxo_refusal {
     HIBERNAXO_BLOCKS = 15,   /* not 1 to 80 whole codeblocks: the burst's length */
     HIBERNAXO_TEXT = 16,     /* the first byte that breaks the form of a line of ids, or the line's end; then the first digit of an item against the rules; in writing, the range's index */
     HIBERNAXO_COUNT = 17,    /* option 0x87 says another number than that of the packages: the message; 0 in the writer */
-    HIBERNAXO_IDS = 20       /* a state with more than 64 ids or one id twice: 0; a 65th id among the delivered ones: its message */
+    HIBERNAXO_IDS = 20,      /* a state with more than 64 ids or one id twice: 0; a 65th id among the delivered ones: its message */
+    HIBERNAXO_HOLES = 22     /* more than 64 stretches would be skipped: the first byte of the 65th */
 };
 
 /* How many values each function stores. */
@@ -59,6 +60,7 @@ enum hibernaxo_refusal {
 #define HIBERNAXO_OPEN_BURST_VALUES 2
 #define HIBERNAXO_READ_IDS_VALUES 66
 #define HIBERNAXO_WRITE_IDS_VALUES 2
+#define HIBERNAXO_SALVAGE_VALUES 132
 
 /* A state is an array of 32-bit numbers: how many ids it holds, then the ids, and as many places behind each id the
  * sequence number that its next message gets. A state with no id is all zero. */
@@ -75,6 +77,9 @@ enum hibernaxo_refusal {
 /* The most ranges of a line of ids, and how many numbers are the ends of so many. */
 #define HIBERNAXO_ID_RANGES 32
 #define HIBERNAXO_WRITE_IDS_ENDS 64
+
+/* The most stretches that a salvage reports. */
+#define HIBERNAXO_STRETCHES 64
 
 /* Reads the header of the message at the start of bytes (refusals 12 and 1 to 7; its packages are not counted).
  * values: [1] the option word count W, [2] flag bits 7 to 0, [3] message id, [4] sequence number, [5] length,
@@ -150,6 +155,14 @@ uint32_t hibernaxo_read_ids(const uint8_t *line, size_t line_length, uint64_t va
  * values: [1] bytes written; bytes of out behind them stay. */
 uint32_t hibernaxo_write_ids(const uint32_t ends[HIBERNAXO_WRITE_IDS_ENDS], size_t count, uint8_t *out,
                              size_t out_length, uint64_t values[HIBERNAXO_WRITE_IDS_VALUES]);
+
+/* Salvages a damaged recording: each message that passes every check is written into out unchanged, one behind the
+ * other; where none passes, 4 bytes are skipped, or what is left (refusals 12, 22 and 13). Bytes that are skipped one
+ * behind the other are one stretch. values: [1] bytes and [2] messages written, [3] how many stretches were skipped;
+ * then from [4] on start and length of each of 64 stretches, zero behind the last. Bytes of out behind what is written
+ * stay. A buffer as long as the recording always has room. */
+uint32_t hibernaxo_salvage(const uint8_t *recording, size_t recording_length, uint8_t *out, size_t out_length,
+                           uint64_t values[HIBERNAXO_SALVAGE_VALUES]);
 
 #ifdef __cplusplus
 }

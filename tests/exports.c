@@ -722,9 +722,89 @@ static void writing_ids(void)
     line_written(__LINE__, out, "0-4294967295");
 }
 
+static_assert(4 + 2 * HIBERNAXO_STRETCHES == HIBERNAXO_SALVAGE_VALUES, "place, bytes, messages, number of stretches, and the stretches");
+
+/* A message without payload, 24 bytes. */
+static const char EMPTY[] = "10000000 00000007 00000005 00000018 00000064 00000000";
+
+/* So many times 4 zeros, each with a message without payload behind it. */
+static struct lent holes(size_t count)
+{
+    struct lent s = lend(28 * count, 0);
+    for (size_t k = 0; k < count; k++)
+        from_hex(EMPTY, s.bytes + 28 * k + 4);
+    return shut(s);
+}
+
+/* The slowest recording that is known (docs/SPEED.md): half of its first words are headers, each with a first package that leads behind them all;
+ * from there on a third are, over one run of packages of 12 bytes. Every header has a length to the end, where the run is cut. */
+static struct lent slowest(void)
+{
+    static const uint32_t front[6] = {0x10000080, 0x15000080, 0x14000080}, behind[6] = {0x10000080, 0x000C0000, 0x11000080, 0, 0x000C0000, 0};
+    struct lent s = lend(LARGEST, 0);
+    for (size_t k = 0; k < LARGEST / 4; k++) {
+        uint32_t word = (k < 3600 ? front : behind)[k % 6];
+        if (word == 0)
+            word = (uint32_t)(LARGEST - 4 * (k - 3));
+        for (size_t b = 0; b < 4; b++)
+            s.bytes[4 * k + b] = (uint8_t)(word >> (24 - 8 * b));
+    }
+    return shut(s);
+}
+
+static void salvages(void)
+{
+    uint64_t wanted[HIBERNAXO_SALVAGE_VALUES] = {0, 24 * HIBERNAXO_STRETCHES, HIBERNAXO_STRETCHES, HIBERNAXO_STRETCHES};
+    /* M, kept as it is, behind 4 bytes and with 2 bytes behind it */
+    struct lent s = input("DEADBEEF 10000080 00000007 00000005 00000038 00000064 00000000"
+                          "00000001 000D0000 00000000 AA112233 00000002 00105500 0000000A DEADBEEF 1000"),
+                out = buffer(60);
+    CALL(hibernaxo_salvage, s.bytes, s.length, out.bytes, out.length, values(HIBERNAXO_SALVAGE_VALUES));
+    EXPECT(HIBERNAXO_OK, 0, 56, 1, 2, 0, 4, 60, 2);
+    WRITTEN(out, M);
+    out = buffer(55);
+    CALL(hibernaxo_salvage, s.bytes, s.length, out.bytes, out.length, values(HIBERNAXO_SALVAGE_VALUES));
+    EXPECT(HIBERNAXO_ROOM, 56);
+    KEPT(out);
+    s = input(M); /* a recording that passes */
+    out = buffer(56);
+    CALL(hibernaxo_salvage, s.bytes, s.length, out.bytes, out.length, values(HIBERNAXO_SALVAGE_VALUES));
+    EXPECT(HIBERNAXO_OK, 0, 56, 1, 0);
+    WRITTEN(out, M);
+    s = m_with(28, "0011"); /* P8 with L = 17: nothing is kept */
+    out = buffer(56);
+    CALL(hibernaxo_salvage, s.bytes, s.length, out.bytes, out.length, values(HIBERNAXO_SALVAGE_VALUES));
+    EXPECT(HIBERNAXO_OK, 0, 0, 0, 1, 0, 56);
+    KEPT(out);
+    s = zeros(0);
+    CALL(hibernaxo_salvage, s.bytes, s.length, out.bytes, 0, values(HIBERNAXO_SALVAGE_VALUES));
+    EXPECT(HIBERNAXO_OK, 0, 0, 0, 0);
+    s = slowest();
+    CALL(hibernaxo_salvage, s.bytes, s.length, out.bytes, 0, values(HIBERNAXO_SALVAGE_VALUES));
+    EXPECT(HIBERNAXO_OK, 0, 0, 0, 1, 0, LARGEST);
+    s = zeros(LARGEST + 1);
+    CALL(hibernaxo_salvage, s.bytes, s.length, out.bytes, out.length, values(HIBERNAXO_SALVAGE_VALUES));
+    EXPECT(HIBERNAXO_LARGE, LARGEST);
+    KEPT(out);
+    /* as many stretches as are reported, and one more, which is found before the buffer is too short */
+    for (size_t k = 0; k < HIBERNAXO_STRETCHES; k++) {
+        wanted[4 + 2 * k] = 28 * k;
+        wanted[5 + 2 * k] = 4;
+    }
+    s = holes(HIBERNAXO_STRETCHES);
+    out = buffer(24 * HIBERNAXO_STRETCHES);
+    CALL(hibernaxo_salvage, s.bytes, s.length, out.bytes, out.length, values(HIBERNAXO_SALVAGE_VALUES));
+    expect(__LINE__, HIBERNAXO_OK, wanted, HIBERNAXO_SALVAGE_VALUES);
+    HOLDS(out, 24 * (HIBERNAXO_STRETCHES - 1), EMPTY);
+    s = holes(HIBERNAXO_STRETCHES + 1);
+    out = buffer(0);
+    CALL(hibernaxo_salvage, s.bytes, s.length, out.bytes, out.length, values(HIBERNAXO_SALVAGE_VALUES));
+    EXPECT(HIBERNAXO_HOLES, 28 * HIBERNAXO_STRETCHES);
+}
+
 int main(void)
 {
-    static void (*const groups[])(void) = {headers, packages, checks, writing, cleaning, sheets, copies, steps, purging, randomizing, bursts, reading_ids, writing_ids};
+    static void (*const groups[])(void) = {headers, packages, checks, writing, cleaning, sheets, copies, steps, purging, randomizing, bursts, reading_ids, writing_ids, salvages};
     signal(SIGSEGV, touched);
     signal(SIGBUS, touched);
     for (size_t k = 0; k < sizeof groups / sizeof *groups; k++) {

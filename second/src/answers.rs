@@ -6,7 +6,7 @@ use crate::ids::{self, IdRange, MOST_RANGES};
 use crate::refusal::Refusal;
 use crate::render::Draft;
 use crate::steps::{self, Running, State, MOST_IDS};
-use crate::{burst, copy, parse, purge, render, sheet};
+use crate::{burst, copy, parse, purge, render, salvage, sheet};
 
 #[derive(Clone, Copy, Debug, PartialEq, Eq)]
 pub struct Answer<const N: usize> {
@@ -220,6 +220,18 @@ pub fn step(
                 done.messages,
                 done.packages,
             ])
+        }
+        Err(refusal) => Answer::refused(refusal),
+    }
+}
+
+pub fn salvage(input: &[u8], out: &mut [u8]) -> Answer<132> {
+    match salvage::salvage(input, out) {
+        Ok(salvaged) => {
+            let stretches = salvaged.stretches;
+            let mut told = vec![salvaged.bytes, salvaged.messages, stretches.len()];
+            told.extend(stretches.iter().flat_map(|stretch| [stretch.start, stretch.length]));
+            Answer::success(&told)
         }
         Err(refusal) => Answer::refused(refusal),
     }

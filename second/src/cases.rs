@@ -1,5 +1,7 @@
 //! The seeded cases: each has its own dice and is of one kind.
 
+mod salvages;
+
 use crate::burst::{CODEBLOCK_BYTES, MARKER_BYTES};
 use crate::damage::{any_fault, change_blindly, damaged, with_faults};
 use crate::dice::Dice;
@@ -41,7 +43,7 @@ const KINDS: [(u64, Case); 15] = [
 ];
 
 /// What is tried beside these cases: one case beside each so many of them.
-const BESIDE: [(u64, Case); 8] = [
+const BESIDE: [(u64, Case); 11] = [
     (7, pair_case),
     (8, purge_case),
     (12, purging_case),
@@ -50,6 +52,9 @@ const BESIDE: [(u64, Case); 8] = [
     (4, step_case),
     (13, stepping_case),
     (160, run_case),
+    (6, salvages::salvage),
+    (11, salvages::salvaging),
+    (10, salvages::bad_block),
 ];
 
 /// Runs the case with this number, and what is tried beside it.

@@ -80,6 +80,13 @@ pub mod raw {
             out_len: usize,
             values: *mut u64,
         ) -> u32;
+        pub fn hibernaxo_salvage(
+            input: *const u8,
+            len: usize,
+            out: *mut u8,
+            out_len: usize,
+            values: *mut u64,
+        ) -> u32;
     }
 }
 
@@ -256,5 +263,11 @@ pub fn step(
                 values,
             )
         })
+    })
+}
+
+pub fn salvage(input: &mut [u8], out: &mut [u8]) -> Given<132> {
+    call(|values| unsafe {
+        raw::hibernaxo_salvage(input.as_mut_ptr(), input.len(), out.as_mut_ptr(), out.len(), values)
     })
 }

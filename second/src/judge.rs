@@ -6,7 +6,7 @@ use crate::refusal::{NAMES, NUMBERS};
 use std::fmt::Write;
 
 /// The exports, and the refusal numbers that each of them can give.
-pub const EXPORTS: [(&str, &[u32]); 14] = [
+pub const EXPORTS: [(&str, &[u32]); 15] = [
     ("header", &[1, 2, 3, 4, 5, 6, 7, 12]),
     ("package", &[10, 12]),
     ("check", &[1, 2, 3, 4, 5, 6, 7, 8, 9, 10, 12, 17]),
@@ -21,6 +21,7 @@ pub const EXPORTS: [(&str, &[u32]); 14] = [
     ("read_ids", &[12, 16]),
     ("write_ids", &[13, 16]),
     ("step", &[1, 2, 3, 4, 5, 6, 7, 8, 9, 10, 11, 12, 13, 17, 20]),
+    ("salvage", &[12, 13, 22]),
 ];
 
 /// So many differences are printed; the others are only counted.

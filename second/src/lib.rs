@@ -13,11 +13,13 @@ pub mod parse;
 pub mod purge;
 pub mod refusal;
 pub mod render;
+pub mod salvage;
 pub mod sheet;
 pub mod steps;
 pub mod text;
 
 // The generator of inputs, good and bad.
+pub mod blocks;
 pub mod damage;
 pub mod dice;
 pub mod drafts;
@@ -52,6 +54,8 @@ pub mod purging;
 pub mod releases;
 #[cfg(feature = "exports")]
 pub mod round_trips;
+#[cfg(feature = "exports")]
+pub mod salvaging;
 #[cfg(feature = "exports")]
 pub mod side_by_side;
 #[cfg(feature = "exports")]

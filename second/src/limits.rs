@@ -2,6 +2,7 @@
 //! paper's own numbers. They are part of every run.
 
 mod ids;
+mod salvages;
 mod steps;
 
 use crate::burst::{CODEBLOCK_BYTES, MARKER_BYTES, PERIOD};
@@ -28,7 +29,7 @@ use crate::side_by_side;
 type Part = fn(&mut Limits);
 
 /// The parts in their order.
-const PARTS: [(&str, Part); 20] = [
+const PARTS: [(&str, Part); 21] = [
     ("the paper's numbers", paper_numbers),
     ("sizes", sizes),
     ("faults", faults),
@@ -47,6 +48,7 @@ const PARTS: [(&str, Part); 20] = [
     ("bursts", bursts),
     ("ids", ids::ids),
     ("steps", steps::steps),
+    ("salvages", salvages::salvages),
     ("demand 3", demand_3),
     ("round trips", round_trips),
 ];

@@ -20,12 +20,13 @@ pub const TEXT: u32 = 16;
 pub const COUNT: u32 = 17;
 /// It stands first of all for a state, and before ROOM for a 65th id.
 pub const IDS: u32 = 20;
+pub const HOLES: u32 = 22;
 
 /// Every refusal number is below this; 0 is success.
-pub const NUMBERS: usize = 21;
+pub const NUMBERS: usize = 23;
 
 /// The refusal numbers and their names.
-pub const NAMES: [(u32, &str); 18] = [
+pub const NAMES: [(u32, &str); 19] = [
     (SHORT, "SHORT"),
     (VERSION, "VERSION"),
     (TYPE, "TYPE"),
@@ -44,6 +45,7 @@ pub const NAMES: [(u32, &str); 18] = [
     (TEXT, "TEXT"),
     (COUNT, "COUNT"),
     (IDS, "IDS"),
+    (HOLES, "HOLES"),
 ];
 
 /// Every input, sheets apart, has at most so many bytes.

@@ -27,6 +27,7 @@ const OPEN_BURST: usize = 10;
 const READ_IDS: usize = 11;
 const WRITE_IDS: usize = 12;
 const STEP: usize = 13;
+const SALVAGE: usize = 14;
 
 pub fn header(judge: &mut Judge, dice: &mut Dice, bytes: &[u8]) -> Answer<10> {
     let mut input = Lent::new(dice, bytes);
@@ -231,6 +232,21 @@ pub fn step(
     let buffers = [("input", &input), ("sheet", &sheet), ("state", &state), ("out", &out)];
     judge.settle(STEP, &[("quota", step.quota as u64)], expected, given, &buffers);
     (given.answer, out.content().to_vec(), state.content().to_vec())
+}
+
+/// The salvage of an input into a buffer of so many bytes.
+pub fn salvage(
+    judge: &mut Judge,
+    dice: &mut Dice,
+    input: &[u8],
+    room: usize,
+) -> (Answer<132>, Vec<u8>) {
+    let mut lent = Lent::new(dice, input);
+    let mut out = Lent::buffer(dice, room);
+    let given = exports::salvage(lent.lend(), out.lend());
+    let expected = answers::salvage(input, out.expected());
+    judge.settle(SALVAGE, &[], expected, given, &[("input", &lent), ("out", &out)]);
+    (given.answer, out.content().to_vec())
 }
 
 /// Walks over the packages of a run from this place on, following the places

@@ -4,6 +4,7 @@
 mod changed_rules;
 mod ids;
 mod purge;
+mod salvage;
 mod steps;
 mod two_sheets;
 

@@ -4,3 +4,4 @@ pub mod Stored
 pub mod Rows
 pub mod Ids
 pub mod States
+pub mod Stretches

@@ -18,6 +18,7 @@ use Rattle.numbered.specs.Numbering.{State}
 use Rattle.numbered.specs.Quota.{Report}
 use Rattle.ids.specs.Reader.{Range, mostItems}
 use Rattle.ids.specs.declared.IdRange.{IdRange}
+use Rattle.salvage.specs.Salvage as salvage
 
 -- the values of a refusal at place p: k zeros behind the place
 abbrev pub refusedAt : ℕ → ℕ → List ℕ
@@ -113,3 +114,13 @@ idsTold (good (ranges, count)) = (0, 0 ∷ count ∷ join (map rangeValues range
 unfoldable pub rangesIn : ℕ → List ℕ → List IdRange
 rangesIn zero ends = []
 rangesIn (suc n) ends = record { first = at ends 0; last = at ends 1 } ∷ rangesIn n (drop 2 ends)
+
+-- a salvage: bytes, messages and how many stretches were skipped, and start and length of each
+abbrev pub stretchValues : salvage.Stretch → List ℕ
+stretchValues h = h .start ∷ h .size ∷ []
+
+abbrev pub salvageValues : salvage.Answer → ℕ × List ℕ
+salvageValues a = (a .number, a .place ∷ a .bytes ∷ a .messages ∷ a .count ∷ join (map stretchValues (a .stretches)))
+
+abbrev pub salvageTold : salvage.Answer × List ℕ → ℕ × List ℕ × List ℕ
+salvageTold = withBuffer salvageValues

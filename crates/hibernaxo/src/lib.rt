@@ -14,12 +14,16 @@ use message::PackageRead;
 use numbered::Answer as Reply;
 use refusal::Refusal;
 use release::Answer;
+use salvage::SalvageAnswer;
+use salvage::Salvaged;
+use salvage::Stretch;
 use sheet::Row;
 use sheet::SheetAnswer;
 use step::State;
 ghost use mathlib.Core.Path.{_≡_};
 ghost use mathlib.Core.List.{[], _∷_, map};
 ghost use Prim.Native.Nat.{_+_, _*_, _≤_, _<_};
+ghost use lib.ListN.{length};
 ghost use lib.Seq.{sets};
 ghost use Rattle.rules.specs.Bytes.{join};
 ghost use Rattle.rules.specs.Reading.{header, checkedRecording};
@@ -40,7 +44,9 @@ ghost use Rattle.step.specs.Told.{stateIn};
 ghost use Rattle.ids.specs.Reader.{readIds};
 ghost use Rattle.ids.specs.Writer.{writeIds};
 ghost use Rattle.ids.specs.Told.{rangeIn, handedOver};
-ghost use Rattle.hibernaxo.specs.Told.{headerTold, stepTold, checkTold, draft, writtenValues, writtenTold, rowValues, sheetTold, answerValues, copyTold, numbersFrom, stateAt, stateValues, reportValues, steppedTold, randomizedTold, openedTold, rangeValues, idsTold, rangesIn};
+ghost use Rattle.salvage.specs.Salvage as salvage;
+ghost use Rattle.salvage.specs.Told as salvaged;
+ghost use Rattle.hibernaxo.specs.Told.{headerTold, stepTold, checkTold, draft, writtenValues, writtenTold, rowValues, sheetTold, answerValues, copyTold, numbersFrom, stateAt, stateValues, reportValues, steppedTold, randomizedTold, openedTold, rangeValues, idsTold, rangesIn, stretchValues, salvageValues, salvageTold};
 
 // The number of a refusal.
 fn number_in(x: Refusal) -> u32
@@ -489,4 +495,60 @@ pub extern "C" fn hibernaxo_write_ids(
     let ranges = ranges_in(ends);
     let a = ids::write_ids(ranges, count, out);
     put_written(a, values)
+}
+
+// Start and length of stretch i, behind the place, the two counts and the number of stretches.
+fn put_stretch(values: &mut [u64; 132], i: usize, stretch: Stretch)
+    requires { ⌜ i < 64 ⌝ }
+    ensures { λ _. ⌜ now (values .exit) ≡ sets (now (values .entry)) (4 + 2 * i) (stretchValues (salvaged.stretchIn stretch)) ⌝ }
+{
+    let at = 4 + 2 * i;
+    values[at] = stretch.start as u64;
+    values[at + 1] = stretch.size as u64;
+}
+
+fn put_stretches(values: &mut [u64; 132], stretches: [Stretch; 64])
+    ensures { λ _. ⌜ (now (values .exit) ≡ sets (now (values .entry)) 4 (join (map stretchValues (map salvaged.stretchIn stretches)))) × (length stretches ≡ 64) ⌝ }
+{
+    let mut i = 0;
+    while i < 64 {
+        let stretch = stretches[i];
+        put_stretch(values, i, stretch);
+        i += 1;
+    }
+}
+
+// What a salvage answered.
+fn put_salvaged(a: Salvaged, values: &mut [u64; 132]) -> u32
+    ensures { λ r. ⌜ (r, now (values .exit)) ≡ salvageValues (salvaged.report a) ⌝ }
+{
+    let answer = a.answer;
+    let stretches = a.stretches;
+    *values = [0; 132];
+    values[3] = a.count as u64;
+    put_stretches(values, stretches);
+    match answer {
+        SalvageAnswer::Done { bytes, messages } => {
+            values[1] = bytes as u64;
+            values[2] = messages as u64;
+            0
+        }
+        SalvageAnswer::Refused(x) => {
+            values[0] = x.place as u64;
+            number_in(x)
+        }
+    }
+}
+
+// What is kept of a damaged recording: bytes, messages, how many stretches were skipped, and start and length of 64 stretches.
+#[no_mangle]
+pub extern "C" fn hibernaxo_salvage(
+    recording: &[u8],
+    out: &mut [u8],
+    values: &mut [u64; 132],
+) -> u32
+    ensures { λ r. ⌜ (r, now (values .exit), now (out .exit)) ≡ salvageTold (salvage.salvage (now (recording .entry)) (now (out .entry))) ⌝ }
+{
+    let a = salvage::salvage(recording, out);
+    put_salvaged(a, values)
 }

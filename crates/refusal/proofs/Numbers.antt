@@ -8,12 +8,12 @@ use Rattle.rules.specs.Outcome.{Outcome, bad}
 use Rattle.rules.specs.Claims.{TellsApart}
 use Rattle.refusal.specs.Numbers.{numberOf, refused}
 use Rattle.refusal.specs.declared.Why.{Why}
-use Rattle.refusal.specs.declared.Why.the-variants.{Short, Version, Kind, Length, Cut, Time, Option, Fragment, Standard, Package, Row, Large, Room, Marker, Blocks, Text, Count, Ids}
+use Rattle.refusal.specs.declared.Why.the-variants.{Short, Version, Kind, Length, Cut, Time, Option, Fragment, Standard, Package, Row, Large, Room, Marker, Blocks, Text, Count, Ids, Holes}
 use Rattle.refusal.specs.declared.Refusal.{Refusal}
 
 -- the case that has a number: the table's cases by their numbers, the first one where the table leaves a number out
 whyOf : ℕ → Why
-whyOf n = getD (Short ∷ Version ∷ Kind ∷ Length ∷ Cut ∷ Time ∷ Option ∷ Fragment ∷ Standard ∷ Package ∷ Row ∷ Large ∷ Room ∷ Marker ∷ Blocks ∷ Text ∷ Count ∷ Short ∷ Short ∷ Ids ∷ []) (n - 1) Short
+whyOf n = getD (Short ∷ Version ∷ Kind ∷ Length ∷ Cut ∷ Time ∷ Option ∷ Fragment ∷ Standard ∷ Package ∷ Row ∷ Large ∷ Room ∷ Marker ∷ Blocks ∷ Text ∷ Count ∷ Short ∷ Short ∷ Ids ∷ Short ∷ Holes ∷ []) (n - 1) Short
 
 back : (w : Why) → whyOf (numberOf w) ≡ w
 unfolding whyOf
@@ -35,6 +35,7 @@ back Blocks = refl
 back Text = refl
 back Count = refl
 back Ids = refl
+back Holes = refl
 
 pub number-injective : TellsApart numberOf
 number-injective v w e = sym (back v) ∙ ap whyOf e ∙ back w

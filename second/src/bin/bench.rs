@@ -2,9 +2,10 @@
 //! copy of the same bytes, bursts also against a bytewise loop, and measuring a
 //! copy beside writing it. Purging is timed beside moving the same bytes, a step
 //! beside the single copy of the same input, and a run of steps over up to 64 MiB.
-//! The ways take turns; medians are shown.
+//! Salvage is timed at its slowest, too. The ways take turns; medians are shown.
 
 use second::answers::{self, Answer};
+use second::blocks::slowest;
 use second::burst::{CODEBLOCK_BYTES, MARKER_BYTES, PERIOD, SEQUENCE};
 use second::dice::Dice;
 use second::exports::raw;
@@ -13,7 +14,7 @@ use second::orders::pack_sheet;
 use second::runs::STATE_WORDS;
 use second::sheet::Row;
 use second::steps::{self, State};
-use second::{copy, parse, purge, render};
+use second::{copy, parse, purge, render, salvage};
 use std::hint::black_box;
 use std::process::ExitCode;
 use std::time::Instant;
@@ -26,6 +27,8 @@ const STEPS: [usize; 3] = [16, 128, 1_024];
 const SAMPLES_OF_A_RUN: usize = 16;
 /// A plain move goes down by so many bytes.
 const MOVED_BY: usize = 64;
+/// The slowest salvage is timed at most so often.
+const SLOW_REPETITIONS: usize = 9;
 /// One sample takes about so many nanoseconds.
 const SAMPLE: f64 = 40_000.0;
 
@@ -165,6 +168,23 @@ fn main() -> ExitCode {
         for steps in STEPS {
             show_run(&time_run(shape, steps, repetitions.div_ceil(SAMPLES_OF_A_RUN)));
         }
+    }
+    println!("\nsalvage");
+    println!(
+        "{:<44}{:>7}{:>11}{:>11}{:>11}{:>15}{:>15}",
+        "", "bytes", "export ns", "second ns", "memcpy ns", "export/second", "export/memcpy"
+    );
+    for shape in SHAPES {
+        for size in SIZES {
+            let mut input = recording(shape, Kind::OneId, size);
+            show(&time_salvage("whole", shape_name(shape), &input, repetitions));
+            input[0] = 0x20;
+            show(&time_salvage("first message bad", shape_name(shape), &input, repetitions));
+        }
+    }
+    for size in SIZES {
+        let few = repetitions.min(SLOW_REPETITIONS);
+        show(&time_salvage("slowest", "nothing passes", &slowest(size / 4), few));
     }
     println!("\nmeasuring a copy beside writing it");
     println!(
@@ -651,6 +671,37 @@ fn time_purge(shape: Shape, size: usize, repetitions: usize) -> Line {
         bytes: length,
         medians: [export - fresh, second - fresh, memmove - fresh],
     }
+}
+
+/// Times the salvage of an input.
+fn time_salvage(what: &str, of: &str, input: &[u8], repetitions: usize) -> Line {
+    let length = input.len();
+    let mut values = [0; 132];
+    let mut outs = [(); 3].map(|()| vec![0; length]);
+    let [export_out, second_out, target] = &mut outs;
+    let mut export = || {
+        let bytes = black_box(input);
+        // The pointers and the lengths are those of the input and the buffer.
+        let number = unsafe {
+            raw::hibernaxo_salvage(
+                bytes.as_ptr(),
+                length,
+                export_out.as_mut_ptr(),
+                length,
+                values.as_mut_ptr(),
+            )
+        };
+        assert_eq!(black_box(number), 0);
+        black_box(&mut *export_out);
+    };
+    let mut second = || {
+        assert!(salvage::salvage(black_box(input), second_out).is_ok());
+        black_box(&mut *second_out);
+    };
+    let mut plain = || memcpy(input, target);
+    let medians = medians(repetitions, [&mut export, &mut second, &mut plain]);
+    assert!(outs[0] == outs[1], "the two salvages differ");
+    Line { name: format!("salvage, {what}, {of}"), bytes: length, medians }
 }
 
 /// Exclusive-ors byte k with byte k of the table's repetition, one by one.

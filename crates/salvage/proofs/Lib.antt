@@ -1,0 +1,11 @@
+-- The laws of a salvage, and the proofs of the claims.
+pub mod Pieces
+pub mod Cover
+pub mod Gaps
+pub mod Worked
+pub mod Claims
+pub mod Growing
+pub mod Surveying
+pub mod Delivering
+pub mod Answering
+pub mod Same
