@@ -20,7 +20,7 @@ use Rattle.numbered.proofs.States.{length-map}
 use Rattle.numbered.specs.Quota.{Taken, takenAt, firstItems, takenFrom, messageOf, bytesTaken}
 
 -- a message that is read at one place is read at any, with anything behind it
-own-here : (p q : ℕ) (s t : List ℕ) (m : Message) (n : ℕ) → message p s ≡ good (m, n) → message q (s ++ t) ≡ good (m, n)
+pub own-here : (p q : ℕ) (s t : List ℕ) (m : Message) (n : ℕ) → message p s ≡ good (m, n) → message q (s ++ t) ≡ good (m, n)
 own-here p q s t m n e =
     let a : message q (take n s ++ (drop n s ++ t)) ≡ good (m, n) = own p s m n e .again q (drop n s ++ t) in
     let z : take n s ++ (drop n s ++ t) ≡ s ++ t = sym (append-assoc (take n s) (drop n s) t) ∙ ap (λ (u : List ℕ). u ++ t) (take-append-drop n s) in

@@ -1,21 +1,9 @@
--- `listing::main`: the part of the recording that is lent lies in the buffer.
+-- `listing::list_input`: the part of the recording that is lent lies in the buffer.
 use mathlib.Core.Path.{sym}
 use lib.Seq.{length-take-le}
 use borrow.Author.Needs.{needs}
-use Rattle.listing.proofs.main.Statement.{statement}
-use Rattle.listing.proofs.main.Tie as tie
-
-arg-count-requires : tie.Need-arg-count-requires
-arg-count-requires c κs = search needs
-
-slice-aggregate-write-all : tie.Need-slice-aggregate-write-all
-slice-aggregate-write-all c = search needs
-
-write-all-requires : tie.Need-write-all-requires
-write-all-requires c κs = search needs
-
-returns : tie.Need-returns
-returns c = search needs
+use Rattle.listing.proofs.list_input.Statement.{statement}
+use Rattle.listing.proofs.list_input.Tie as tie
 
 slice-aggregate-fill : tie.Need-slice-aggregate-fill
 slice-aggregate-fill c = search needs
@@ -50,23 +38,19 @@ slice-aggregate-answer-2 c = search needs
 answer-requires-2 : tie.Need-answer-requires-2
 answer-requires-2 c κs = search needs
 
+returns : tie.Need-returns
+returns c = search needs
+
 returns-2 : tie.Need-returns-2
 returns-2 c = search needs
 
 returns-3 : tie.Need-returns-3
 returns-3 c = search needs
 
-returns-4 : tie.Need-returns-4
-returns-4 c = search needs
-
-pub main-spec : {M : Type 1} → statement M
-main-spec =
+pub list-input-spec : {M : Type 1} → statement M
+list-input-spec =
     tie.close
     (tie.spec
-    arg-count-requires
-    slice-aggregate-write-all
-    write-all-requires
-    returns
     slice-aggregate-fill
     fill-requires
     enum-told
@@ -78,6 +62,6 @@ main-spec =
     answer-requires
     slice-aggregate-answer-2
     answer-requires-2
+    returns
     returns-2
-    returns-3
-    returns-4)
+    returns-3)

@@ -1,0 +1,2 @@
+-- What a turn of the listing takes.
+pub mod Turns

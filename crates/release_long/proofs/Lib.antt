@@ -1,0 +1,2 @@
+-- What the program keeps from window to window.
+pub mod Keeping

@@ -1,0 +1,8 @@
+-- The laws of windows, and the proofs of the claims.
+pub mod Shifted
+pub mod Stops
+pub mod Windows
+pub mod Worked
+pub mod Claims
+pub mod Handing
+pub mod Same
