@@ -1,5 +1,5 @@
 /* hibernaxo: reading, checking, writing, cleaning and salvaging network recordings, order sheets, the release copy, the
- * purge, bursts and ids as a line of text.
+ * purge, bursts, ids as a line of text, and captures from the switch.
  *
  * Each function returns a refusal number, HIBERNAXO_OK for success, and stores its values on every call. values[0] is
  * always the place of the refusal, a byte offset in the input named, or what the number says below; on success it is 0.
@@ -35,12 +35,13 @@ enum hibernaxo_refusal {
     HIBERNAXO_STANDARD = 9,  /* flag bit 7 is 1 with no payload, or 0 with one: the message */
     HIBERNAXO_PACKAGE = 10,  /* a package that its header or the bytes left do not allow: the package */
     HIBERNAXO_ROW = 11,      /* a row against the rules: the row; a bad size of the sheet: the sheet's length */
-    HIBERNAXO_LARGE = 12,    /* an input, or the writer's message, above 65,536 bytes: 65536 */
+    HIBERNAXO_LARGE = 12,    /* an input, or the writer's message, above 65,536 bytes: 65536; in a capture a clean message above 65,507 bytes: the message */
     HIBERNAXO_ROOM = 13,     /* the output buffer is too short: the bytes needed */
     HIBERNAXO_MARKER = 14,   /* fewer than 8 bytes, or another marker: 0 */
     HIBERNAXO_BLOCKS = 15,   /* not 1 to 80 whole codeblocks: the burst's length */
     HIBERNAXO_TEXT = 16,     /* the first byte that breaks the form of a line of ids, or the line's end; then the first digit of an item against the rules; in writing, the range's index */
     HIBERNAXO_COUNT = 17,    /* option 0x87 says another number than that of the packages: the message; 0 in the writer */
+    HIBERNAXO_CAPTURE = 18,  /* a capture file's bad header: 0; a record that the file's end cuts: the record */
     HIBERNAXO_IDS = 20,      /* a state with more than 64 ids or one id twice: 0; a 65th id among the delivered ones: its message */
     HIBERNAXO_HOLES = 22     /* more than 64 stretches would be skipped: the first byte of the 65th */
 };
@@ -61,6 +62,8 @@ enum hibernaxo_refusal {
 #define HIBERNAXO_READ_IDS_VALUES 66
 #define HIBERNAXO_WRITE_IDS_VALUES 2
 #define HIBERNAXO_SALVAGE_VALUES 132
+#define HIBERNAXO_READ_CAPTURE_VALUES 6
+#define HIBERNAXO_WRITE_CAPTURE_VALUES 3
 
 /* A state is an array of 32-bit numbers: how many ids it holds, then the ids, and as many places behind each id the
  * sequence number that its next message gets. A state with no id is all zero. */
@@ -163,6 +166,20 @@ uint32_t hibernaxo_write_ids(const uint32_t ends[HIBERNAXO_WRITE_IDS_ENDS], size
  * stay. A buffer as long as the recording always has room. */
 uint32_t hibernaxo_salvage(const uint8_t *recording, size_t recording_length, uint8_t *out, size_t out_length,
                            uint64_t values[HIBERNAXO_SALVAGE_VALUES]);
+
+/* Takes the messages of a capture file into out, each as it is, in capture order (refusals 12, 18 and 13). The file is
+ * classic pcap of either byte order, version 2.4, link type Ethernet, with microseconds. A packet is kept if it is an IPv4
+ * UDP datagram to port, no IP fragment, captured whole, whose data are exactly one message that passes every check.
+ * values: [1] bytes written, [2] packets kept, and under the first that applies, [3] not seen to be for us, [4] cut short,
+ * [5] bad message, lengths that do not fit too: all packets of the file. Bytes of out behind those written stay. */
+uint32_t hibernaxo_read_capture(const uint8_t *file, size_t file_length, uint16_t port, uint8_t *out,
+                                size_t out_length, uint64_t values[HIBERNAXO_READ_CAPTURE_VALUES]);
+
+/* Writes a recording as such a file into out, big-endian: each message in clean form in a datagram of its own to port
+ * (refusals 12, 1 to 10, 17, again 12, at the first message whose clean form has more than 65,507 bytes, and 13). A file of
+ * at most 65,536 bytes can be read again. values: [1] bytes, [2] messages written; bytes of out behind them stay. */
+uint32_t hibernaxo_write_capture(const uint8_t *recording, size_t recording_length, uint16_t port, uint8_t *out,
+                                 size_t out_length, uint64_t values[HIBERNAXO_WRITE_CAPTURE_VALUES]);
 
 #ifdef __cplusplus
 }

@@ -802,9 +802,114 @@ static void salvages(void)
     EXPECT(HIBERNAXO_HOLES, 28 * HIBERNAXO_STRETCHES);
 }
 
+/* A capture file of CLEAN to port 1234 hex, worked out from the layouts that document 02 names. The IP header's halves add up to 4565 hex. */
+#define FILE_HEADER "A1B2C3D4 00020004 00000000 00000000 0001000D 00000001"
+#define FRAME_HEADERS "0000 0000 0000 0000 0000 0000 0800 4500 0054 0000 0000 0011 BA9A 0000 0000 0000 0000 0000 1234 0040 0000"
+static const char CAPTURED[] = FILE_HEADER "00000064 00000000 00000062 00000062" FRAME_HEADERS
+                               "10000080 00000007 00000005 00000038 00000064 00000000"
+                               "00000001 000D0000 00000000 AA000000 00000002 00100000 0000000A DEADBEEF";
+enum { FILE_BYTES = 24, RECORD_BYTES = 16, CAPTURED_BYTES = 24 + 16 + 42 + 56, TYPE_AT = 24 + 16 + 12, ORIGINAL_AT = 24 + 12 };
+
+static struct lent captured_with(size_t at, const char *text)
+{
+    struct lent memory = bytes_of(CAPTURED);
+    from_hex(text, memory.bytes + at);
+    return shut(memory);
+}
+
+static void reading_captures(void)
+{
+    struct lent file = input(CAPTURED), out = buffer(60);
+    CALL(hibernaxo_read_capture, file.bytes, file.length, 0x1234, out.bytes, out.length, values(HIBERNAXO_READ_CAPTURE_VALUES));
+    EXPECT(HIBERNAXO_OK, 0, 56, 1, 0, 0, 0);
+    WRITTEN(out, CLEAN);
+    /* a packet under each of the other counts: another port, another type; more on the wire than was captured; a message of version 2 */
+    out = buffer(56);
+    CALL(hibernaxo_read_capture, file.bytes, file.length, 0x3412, out.bytes, out.length, values(HIBERNAXO_READ_CAPTURE_VALUES));
+    EXPECT(HIBERNAXO_OK, 0, 0, 0, 1, 0, 0);
+    file = captured_with(TYPE_AT, "8100");
+    CALL(hibernaxo_read_capture, file.bytes, file.length, 0x1234, out.bytes, out.length, values(HIBERNAXO_READ_CAPTURE_VALUES));
+    EXPECT(HIBERNAXO_OK, 0, 0, 0, 1, 0, 0);
+    file = captured_with(ORIGINAL_AT, "00000063");
+    CALL(hibernaxo_read_capture, file.bytes, file.length, 0x1234, out.bytes, out.length, values(HIBERNAXO_READ_CAPTURE_VALUES));
+    EXPECT(HIBERNAXO_OK, 0, 0, 0, 0, 1, 0);
+    file = captured_with(CAPTURED_BYTES - 56, "20");
+    CALL(hibernaxo_read_capture, file.bytes, file.length, 0x1234, out.bytes, out.length, values(HIBERNAXO_READ_CAPTURE_VALUES));
+    EXPECT(HIBERNAXO_OK, 0, 0, 0, 0, 0, 1);
+    KEPT(out);
+    /* the other byte order, without a packet */
+    file = input("D4C3B2A1 02000400 00000000 00000000 0D000100 01000000");
+    CALL(hibernaxo_read_capture, file.bytes, file.length, 0x1234, out.bytes, out.length, values(HIBERNAXO_READ_CAPTURE_VALUES));
+    EXPECT(HIBERNAXO_OK, 0, 0, 0, 0, 0, 0);
+    /* no file header, one of nanoseconds, a record that the end cuts in its header and behind it, a file too long, no room */
+    CALL(hibernaxo_read_capture, file.bytes, FILE_BYTES - 1, 0x1234, out.bytes, out.length, values(HIBERNAXO_READ_CAPTURE_VALUES));
+    EXPECT(HIBERNAXO_CAPTURE, 0);
+    file = captured_with(0, "A1B23C4D");
+    CALL(hibernaxo_read_capture, file.bytes, file.length, 0x1234, out.bytes, out.length, values(HIBERNAXO_READ_CAPTURE_VALUES));
+    EXPECT(HIBERNAXO_CAPTURE, 0);
+    file = input(CAPTURED);
+    CALL(hibernaxo_read_capture, file.bytes, FILE_BYTES + RECORD_BYTES - 1, 0x1234, out.bytes, out.length, values(HIBERNAXO_READ_CAPTURE_VALUES));
+    EXPECT(HIBERNAXO_CAPTURE, FILE_BYTES);
+    CALL(hibernaxo_read_capture, file.bytes, CAPTURED_BYTES - 1, 0x1234, out.bytes, out.length, values(HIBERNAXO_READ_CAPTURE_VALUES));
+    EXPECT(HIBERNAXO_CAPTURE, FILE_BYTES);
+    KEPT(out);
+    out = buffer(55);
+    CALL(hibernaxo_read_capture, file.bytes, file.length, 0x1234, out.bytes, out.length, values(HIBERNAXO_READ_CAPTURE_VALUES));
+    EXPECT(HIBERNAXO_ROOM, 56);
+    file = zeros(LARGEST + 1);
+    CALL(hibernaxo_read_capture, file.bytes, file.length, 0x1234, out.bytes, out.length, values(HIBERNAXO_READ_CAPTURE_VALUES));
+    EXPECT(HIBERNAXO_LARGE, LARGEST);
+    KEPT(out);
+}
+
+/* A message of so many bytes with one package, which fills it. */
+static struct lent filled(size_t length)
+{
+    struct lent memory = lend(length, 0);
+    from_hex("10000080 00000007 00000005 00000000 00000064 00000000 00000001 00000000", memory.bytes);
+    memory.bytes[14] = (uint8_t)(length / 256), memory.bytes[15] = (uint8_t)length;
+    memory.bytes[28] = (uint8_t)((length - 24) / 256), memory.bytes[29] = (uint8_t)(length - 24);
+    return shut(memory);
+}
+
+static void writing_captures(void)
+{
+    struct lent s = input(M), out = buffer(CAPTURED_BYTES + 2), large;
+    CALL(hibernaxo_write_capture, s.bytes, s.length, 0x1234, out.bytes, out.length, values(HIBERNAXO_WRITE_CAPTURE_VALUES));
+    EXPECT(HIBERNAXO_OK, 0, CAPTURED_BYTES, 1);
+    WRITTEN(out, CAPTURED);
+    out = buffer(FILE_BYTES);
+    CALL(hibernaxo_write_capture, s.bytes, 0, 0x1234, out.bytes, out.length, values(HIBERNAXO_WRITE_CAPTURE_VALUES));
+    EXPECT(HIBERNAXO_OK, 0, FILE_BYTES, 0);
+    WRITTEN(out, FILE_HEADER);
+    /* microseconds are rounded down */
+    s = m_with(20, "3B9AC9FF");
+    out = buffer(CAPTURED_BYTES);
+    CALL(hibernaxo_write_capture, s.bytes, s.length, 0x1234, out.bytes, out.length, values(HIBERNAXO_WRITE_CAPTURE_VALUES));
+    EXPECT(HIBERNAXO_OK, 0, CAPTURED_BYTES, 1);
+    HOLDS(out, FILE_BYTES, "00000064 000F423F 00000062 00000062");
+    /* refused: a check, a recording too long, no room; and a message that a datagram holds, and one that none does */
+    out = buffer(CAPTURED_BYTES - 1);
+    CALL(hibernaxo_write_capture, s.bytes, s.length, 0x1234, out.bytes, out.length, values(HIBERNAXO_WRITE_CAPTURE_VALUES));
+    EXPECT(HIBERNAXO_ROOM, CAPTURED_BYTES);
+    s = m_with(0, "20");
+    CALL(hibernaxo_write_capture, s.bytes, s.length, 0x1234, out.bytes, out.length, values(HIBERNAXO_WRITE_CAPTURE_VALUES));
+    EXPECT(HIBERNAXO_VERSION, 0);
+    large = zeros(LARGEST + 1);
+    CALL(hibernaxo_write_capture, large.bytes, large.length, 0x1234, out.bytes, out.length, values(HIBERNAXO_WRITE_CAPTURE_VALUES));
+    EXPECT(HIBERNAXO_LARGE, LARGEST);
+    large = filled(65504);
+    CALL(hibernaxo_write_capture, large.bytes, large.length, 0x1234, out.bytes, out.length, values(HIBERNAXO_WRITE_CAPTURE_VALUES));
+    EXPECT(HIBERNAXO_ROOM, 24 + 16 + 42 + 65504);
+    large = filled(65508);
+    CALL(hibernaxo_write_capture, large.bytes, large.length, 0x1234, out.bytes, out.length, values(HIBERNAXO_WRITE_CAPTURE_VALUES));
+    EXPECT(HIBERNAXO_LARGE, 0);
+    KEPT(out);
+}
+
 int main(void)
 {
-    static void (*const groups[])(void) = {headers, packages, checks, writing, cleaning, sheets, copies, steps, purging, randomizing, bursts, reading_ids, writing_ids, salvages};
+    static void (*const groups[])(void) = {headers, packages, checks, writing, cleaning, sheets, copies, steps, purging, randomizing, bursts, reading_ids, writing_ids, salvages, reading_captures, writing_captures};
     signal(SIGSEGV, touched);
     signal(SIGBUS, touched);
     for (size_t k = 0; k < sizeof groups / sizeof *groups; k++) {

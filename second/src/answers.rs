@@ -6,7 +6,7 @@ use crate::ids::{self, IdRange, MOST_RANGES};
 use crate::refusal::Refusal;
 use crate::render::Draft;
 use crate::steps::{self, Running, State, MOST_IDS};
-use crate::{burst, copy, parse, purge, render, salvage, sheet};
+use crate::{burst, capture, copy, parse, purge, render, salvage, sheet};
 
 #[derive(Clone, Copy, Debug, PartialEq, Eq)]
 pub struct Answer<const N: usize> {
@@ -233,6 +233,22 @@ pub fn salvage(input: &[u8], out: &mut [u8]) -> Answer<132> {
             told.extend(stretches.iter().flat_map(|stretch| [stretch.start, stretch.length]));
             Answer::success(&told)
         }
+        Err(refusal) => Answer::refused(refusal),
+    }
+}
+
+pub fn read_capture(file: &[u8], port: u16, out: &mut [u8]) -> Answer<6> {
+    match capture::read_capture(file, port, out) {
+        Ok(told) => {
+            Answer::success(&[told.bytes, told.kept, told.not_for_us, told.cut_short, told.bad])
+        }
+        Err(refusal) => Answer::refused(refusal),
+    }
+}
+
+pub fn write_capture(recording: &[u8], port: u16, out: &mut [u8]) -> Answer<3> {
+    match capture::write_capture(recording, port, out) {
+        Ok(written) => Answer::success(&[written.bytes, written.messages]),
         Err(refusal) => Answer::refused(refusal),
     }
 }

@@ -1,5 +1,6 @@
 //! The seeded cases: each has its own dice and is of one kind.
 
+mod captures;
 mod salvages;
 
 use crate::burst::{CODEBLOCK_BYTES, MARKER_BYTES};
@@ -43,7 +44,7 @@ const KINDS: [(u64, Case); 15] = [
 ];
 
 /// What is tried beside these cases: one case beside each so many of them.
-const BESIDE: [(u64, Case); 11] = [
+const BESIDE: [(u64, Case); 13] = [
     (7, pair_case),
     (8, purge_case),
     (12, purging_case),
@@ -55,6 +56,8 @@ const BESIDE: [(u64, Case); 11] = [
     (6, salvages::salvage),
     (11, salvages::salvaging),
     (10, salvages::bad_block),
+    (6, captures::capture),
+    (14, captures::capturing),
 ];
 
 /// Runs the case with this number, and what is tried beside it.

@@ -87,6 +87,22 @@ pub mod raw {
             out_len: usize,
             values: *mut u64,
         ) -> u32;
+        pub fn hibernaxo_read_capture(
+            file: *const u8,
+            len: usize,
+            port: u16,
+            out: *mut u8,
+            out_len: usize,
+            values: *mut u64,
+        ) -> u32;
+        pub fn hibernaxo_write_capture(
+            recording: *const u8,
+            len: usize,
+            port: u16,
+            out: *mut u8,
+            out_len: usize,
+            values: *mut u64,
+        ) -> u32;
     }
 }
 
@@ -269,5 +285,31 @@ pub fn step(
 pub fn salvage(input: &mut [u8], out: &mut [u8]) -> Given<132> {
     call(|values| unsafe {
         raw::hibernaxo_salvage(input.as_mut_ptr(), input.len(), out.as_mut_ptr(), out.len(), values)
+    })
+}
+
+pub fn read_capture(file: &mut [u8], port: u16, out: &mut [u8]) -> Given<6> {
+    call(|values| unsafe {
+        raw::hibernaxo_read_capture(
+            file.as_mut_ptr(),
+            file.len(),
+            port,
+            out.as_mut_ptr(),
+            out.len(),
+            values,
+        )
+    })
+}
+
+pub fn write_capture(recording: &mut [u8], port: u16, out: &mut [u8]) -> Given<3> {
+    call(|values| unsafe {
+        raw::hibernaxo_write_capture(
+            recording.as_mut_ptr(),
+            recording.len(),
+            port,
+            out.as_mut_ptr(),
+            out.len(),
+            values,
+        )
     })
 }

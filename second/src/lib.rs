@@ -6,6 +6,7 @@
 
 // The rules, one module for each part of the paper.
 pub mod burst;
+pub mod capture;
 pub mod copy;
 pub mod ids;
 pub mod paper;
@@ -26,6 +27,7 @@ pub mod drafts;
 pub mod generate;
 pub mod lines;
 pub mod orders;
+pub mod packets;
 pub mod pairs;
 pub mod rests;
 pub mod runs;
@@ -33,6 +35,8 @@ pub mod seams;
 
 // The comparison with the library's exports.
 pub mod answers;
+#[cfg(feature = "exports")]
+pub mod capturing;
 #[cfg(feature = "exports")]
 pub mod cases;
 #[cfg(feature = "exports")]

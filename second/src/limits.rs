@@ -1,6 +1,7 @@
 //! The limits: fixed inputs at and just above each limit of the paper, and the
 //! paper's own numbers. They are part of every run.
 
+mod captures;
 mod ids;
 mod salvages;
 mod steps;
@@ -29,7 +30,7 @@ use crate::side_by_side;
 type Part = fn(&mut Limits);
 
 /// The parts in their order.
-const PARTS: [(&str, Part); 21] = [
+const PARTS: [(&str, Part); 22] = [
     ("the paper's numbers", paper_numbers),
     ("sizes", sizes),
     ("faults", faults),
@@ -49,6 +50,7 @@ const PARTS: [(&str, Part); 21] = [
     ("ids", ids::ids),
     ("steps", steps::steps),
     ("salvages", salvages::salvages),
+    ("captures", captures::captures),
     ("demand 3", demand_3),
     ("round trips", round_trips),
 ];

@@ -18,6 +18,7 @@ pub const BLOCKS: u32 = 15;
 pub const TEXT: u32 = 16;
 /// In the order of checks it stands directly after PACKAGE.
 pub const COUNT: u32 = 17;
+pub const CAPTURE: u32 = 18;
 /// It stands first of all for a state, and before ROOM for a 65th id.
 pub const IDS: u32 = 20;
 pub const HOLES: u32 = 22;
@@ -26,7 +27,7 @@ pub const HOLES: u32 = 22;
 pub const NUMBERS: usize = 23;
 
 /// The refusal numbers and their names.
-pub const NAMES: [(u32, &str); 19] = [
+pub const NAMES: [(u32, &str); 20] = [
     (SHORT, "SHORT"),
     (VERSION, "VERSION"),
     (TYPE, "TYPE"),
@@ -44,6 +45,7 @@ pub const NAMES: [(u32, &str); 19] = [
     (BLOCKS, "BLOCKS"),
     (TEXT, "TEXT"),
     (COUNT, "COUNT"),
+    (CAPTURE, "CAPTURE"),
     (IDS, "IDS"),
     (HOLES, "HOLES"),
 ];

@@ -28,6 +28,8 @@ const READ_IDS: usize = 11;
 const WRITE_IDS: usize = 12;
 const STEP: usize = 13;
 const SALVAGE: usize = 14;
+const READ_CAPTURE: usize = 15;
+const WRITE_CAPTURE: usize = 16;
 
 pub fn header(judge: &mut Judge, dice: &mut Dice, bytes: &[u8]) -> Answer<10> {
     let mut input = Lent::new(dice, bytes);
@@ -246,6 +248,40 @@ pub fn salvage(
     let given = exports::salvage(lent.lend(), out.lend());
     let expected = answers::salvage(input, out.expected());
     judge.settle(SALVAGE, &[], expected, given, &[("input", &lent), ("out", &out)]);
+    (given.answer, out.content().to_vec())
+}
+
+/// Reads a capture into a buffer of so many bytes.
+pub fn read_capture(
+    judge: &mut Judge,
+    dice: &mut Dice,
+    file: &[u8],
+    port: u16,
+    room: usize,
+) -> (Answer<6>, Vec<u8>) {
+    let mut input = Lent::new(dice, file);
+    let mut out = Lent::buffer(dice, room);
+    let given = exports::read_capture(input.lend(), port, out.lend());
+    let expected = answers::read_capture(file, port, out.expected());
+    let buffers = [("file", &input), ("out", &out)];
+    judge.settle(READ_CAPTURE, &[("port", port.into())], expected, given, &buffers);
+    (given.answer, out.content().to_vec())
+}
+
+/// Writes a recording as a capture into a buffer of so many bytes.
+pub fn write_capture(
+    judge: &mut Judge,
+    dice: &mut Dice,
+    recording: &[u8],
+    port: u16,
+    room: usize,
+) -> (Answer<3>, Vec<u8>) {
+    let mut input = Lent::new(dice, recording);
+    let mut out = Lent::buffer(dice, room);
+    let given = exports::write_capture(input.lend(), port, out.lend());
+    let expected = answers::write_capture(recording, port, out.expected());
+    let buffers = [("recording", &input), ("out", &out)];
+    judge.settle(WRITE_CAPTURE, &[("port", port.into())], expected, given, &buffers);
     (given.answer, out.content().to_vec())
 }
 

@@ -1,6 +1,7 @@
 //! The paper's numbers: P1 to P12, and what is to be run and compared. The
 //! requests have modules of their own.
 
+mod capture;
 mod changed_rules;
 mod ids;
 mod purge;

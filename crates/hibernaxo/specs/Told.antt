@@ -19,6 +19,8 @@ use Rattle.numbered.specs.Quota.{Report}
 use Rattle.ids.specs.Reader.{Range, mostItems}
 use Rattle.ids.specs.declared.IdRange.{IdRange}
 use Rattle.salvage.specs.Salvage as salvage
+use Rattle.capture.specs.Reading.{ReadAnswer}
+use Rattle.capture.specs.Writing.{WriteAnswer}
 
 -- the values of a refusal at place p: k zeros behind the place
 abbrev pub refusedAt : ℕ → ℕ → List ℕ
@@ -124,3 +126,17 @@ salvageValues a = (a .number, a .place ∷ a .bytes ∷ a .messages ∷ a .count
 
 abbrev pub salvageTold : salvage.Answer × List ℕ → ℕ × List ℕ × List ℕ
 salvageTold = withBuffer salvageValues
+
+-- a capture read: bytes, and the four counts
+abbrev pub readValues : ReadAnswer → ℕ × List ℕ
+readValues a = (a .number, a .place ∷ a .bytes ∷ a .kept ∷ a .notForUs ∷ a .cutShort ∷ a .badMessage ∷ [])
+
+abbrev pub readTold : ReadAnswer × List ℕ → ℕ × List ℕ × List ℕ
+readTold = withBuffer readValues
+
+-- a capture written: bytes and messages
+abbrev pub sentValues : WriteAnswer → ℕ × List ℕ
+sentValues a = (a .number, a .place ∷ a .bytes ∷ a .messages ∷ [])
+
+abbrev pub sentTold : WriteAnswer × List ℕ → ℕ × List ℕ × List ℕ
+sentTold = withBuffer sentValues

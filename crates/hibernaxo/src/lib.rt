@@ -3,6 +3,8 @@
 // place first. The definitions ..Told say what comes back; include/hibernaxo.h says it to a caller.
 use burst::Opened;
 use burst::Randomized;
+use capture::CaptureRead;
+use capture::CaptureWritten;
 use compose::Record;
 use compose::Written;
 use ids::IdRange;
@@ -46,7 +48,10 @@ ghost use Rattle.ids.specs.Writer.{writeIds};
 ghost use Rattle.ids.specs.Told.{rangeIn, handedOver};
 ghost use Rattle.salvage.specs.Salvage as salvage;
 ghost use Rattle.salvage.specs.Told as salvaged;
-ghost use Rattle.hibernaxo.specs.Told.{headerTold, stepTold, checkTold, draft, writtenValues, writtenTold, rowValues, sheetTold, answerValues, copyTold, numbersFrom, stateAt, stateValues, reportValues, steppedTold, randomizedTold, openedTold, rangeValues, idsTold, rangesIn, stretchValues, salvageValues, salvageTold};
+ghost use Rattle.capture.specs.Reading.{readCapture};
+ghost use Rattle.capture.specs.Writing.{writeCapture};
+ghost use Rattle.capture.specs.Told.{numbersRead, numbersWritten};
+ghost use Rattle.hibernaxo.specs.Told.{headerTold, stepTold, checkTold, draft, writtenValues, writtenTold, rowValues, sheetTold, answerValues, copyTold, numbersFrom, stateAt, stateValues, reportValues, steppedTold, randomizedTold, openedTold, rangeValues, idsTold, rangesIn, stretchValues, salvageValues, salvageTold, readValues, readTold, sentValues, sentTold};
 
 // The number of a refusal.
 fn number_in(x: Refusal) -> u32
@@ -551,4 +556,71 @@ pub extern "C" fn hibernaxo_salvage(
 {
     let a = salvage::salvage(recording, out);
     put_salvaged(a, values)
+}
+
+// What reading a capture answered.
+fn put_counts(a: CaptureRead, values: &mut [u64; 6]) -> u32
+    ensures { λ r. ⌜ (r, now (values .exit)) ≡ readValues (numbersRead a) ⌝ }
+{
+    match a {
+        CaptureRead::Done(t) => {
+            *values = [
+                0,
+                t.bytes as u64,
+                t.kept as u64,
+                t.not_for_us as u64,
+                t.cut_short as u64,
+                t.bad_message as u64,
+            ];
+            0
+        }
+        CaptureRead::Refused(x) => {
+            *values = [x.place as u64, 0, 0, 0, 0, 0];
+            number_in(x)
+        }
+    }
+}
+
+// A capture file read into a recording: bytes; packets kept, not for us, cut short and with a bad message.
+#[no_mangle]
+pub extern "C" fn hibernaxo_read_capture(
+    file: &[u8],
+    port: u16,
+    out: &mut [u8],
+    values: &mut [u64; 6],
+) -> u32
+    ensures { λ r. ⌜ (r, now (values .exit), now (out .exit)) ≡ readTold (readCapture (now (file .entry)) port (now (out .entry))) ⌝ }
+{
+    let a = capture::read_capture(file, port, out);
+    put_counts(a, values)
+}
+
+// What writing a capture answered.
+fn put_sent(a: CaptureWritten, values: &mut [u64; 3]) -> u32
+    ensures { λ r. ⌜ (r, now (values .exit)) ≡ sentValues (numbersWritten a) ⌝ }
+{
+    match a {
+        CaptureWritten::Done { bytes, messages } => {
+            *values = [0, bytes as u64, messages as u64];
+            0
+        }
+        CaptureWritten::Refused(x) => {
+            *values = [x.place as u64, 0, 0];
+            number_in(x)
+        }
+    }
+}
+
+// A recording written as a capture file: bytes and messages.
+#[no_mangle]
+pub extern "C" fn hibernaxo_write_capture(
+    recording: &[u8],
+    port: u16,
+    out: &mut [u8],
+    values: &mut [u64; 3],
+) -> u32
+    ensures { λ r. ⌜ (r, now (values .exit), now (out .exit)) ≡ sentTold (writeCapture (now (recording .entry)) port (now (out .entry))) ⌝ }
+{
+    let a = capture::write_capture(recording, port, out);
+    put_sent(a, values)
 }

@@ -1,0 +1,21 @@
+-- The laws about captures, and the proofs of the claims.
+pub mod Frames
+pub mod Orders
+pub mod Counting
+pub mod Recorded
+pub mod Datagrams
+pub mod Larges
+pub mod Only
+pub mod Turning
+pub mod Tests
+pub mod Classing
+pub mod Tallying
+pub mod Classes
+pub mod Answers
+pub mod Measuring
+pub mod Fronts
+pub mod Weighing
+pub mod Laying
+pub mod Worked
+pub mod Claims
+pub mod Same
