@@ -1,5 +1,5 @@
 /* hibernaxo: reading, checking, writing, cleaning and salvaging network recordings, order sheets, the release copy, the
- * purge, bursts, ids as a line of text, and captures from the switch.
+ * purge, fragments, bursts, ids as a line of text, and captures from the switch.
  *
  * Each function returns a refusal number, HIBERNAXO_OK for success, and stores its values on every call. values[0] is
  * always the place of the refusal, a byte offset in the input named, or what the number says below; on success it is 0.
@@ -43,6 +43,7 @@ enum hibernaxo_refusal {
     HIBERNAXO_COUNT = 17,    /* option 0x87 says another number than that of the packages: the message; 0 in the writer */
     HIBERNAXO_CAPTURE = 18,  /* a capture file's bad header: 0; a record that the file's end cuts: the record */
     HIBERNAXO_IDS = 20,      /* a state with more than 64 ids or one id twice: 0; a 65th id among the delivered ones: its message */
+    HIBERNAXO_GAP = 21,      /* fragments that are no whole set in order: the first that does not continue those before it; the input's end where the last is missing */
     HIBERNAXO_HOLES = 22     /* more than 64 stretches would be skipped: the first byte of the 65th */
 };
 
@@ -57,6 +58,8 @@ enum hibernaxo_refusal {
 #define HIBERNAXO_COPY_WRITE_VALUES 4
 #define HIBERNAXO_STEP_VALUES 6
 #define HIBERNAXO_PURGE_VALUES 2
+#define HIBERNAXO_CUT_VALUES 3
+#define HIBERNAXO_JOIN_VALUES 2
 #define HIBERNAXO_RANDOMIZE_VALUES 1
 #define HIBERNAXO_OPEN_BURST_VALUES 2
 #define HIBERNAXO_READ_IDS_VALUES 66
@@ -142,6 +145,18 @@ uint32_t hibernaxo_step(const uint8_t *input, size_t input_length, const uint8_t
  * is 0 and may be appended to. values: [1] bytes in use: hand over so many as the recording from then on. */
 uint32_t hibernaxo_purge(uint8_t *buffer, size_t buffer_length, const uint8_t *sheet, size_t sheet_length,
                          uint64_t values[HIBERNAXO_PURGE_VALUES]);
+
+/* Cuts the clean form of the first message into fragments with size bytes of payload each (refusals 12, 1 to 10 and 17;
+ * 4 at 0 for a size that is no multiple of 4 from 4 up; 7 at an option 0x86, or at 24 where one is to be added and does
+ * not fit; 13). A payload that fits is not cut. values: [1] bytes written, [2] fragments; bytes of out behind them stay. */
+uint32_t hibernaxo_cut(const uint8_t *message, size_t message_length, size_t size, uint8_t *out, size_t out_length,
+                       uint64_t values[HIBERNAXO_CUT_VALUES]);
+
+/* Joins fragments, one behind the other to the last byte, into the clean form of their message, or cleans one whole
+ * message (refusals 12; 1 to 7 and 21, fragment by fragment; 9, 10 and 17, each at 0; 13). What is joined is never longer
+ * than the input. values: [1] bytes written; bytes of out behind them stay. */
+uint32_t hibernaxo_join(const uint8_t *fragments, size_t fragments_length, uint8_t *out, size_t out_length,
+                        uint64_t values[HIBERNAXO_JOIN_VALUES]);
 
 /* Randomizes a buffer (refusal 12). A second call gives its bytes back. There is no value but the place. */
 uint32_t hibernaxo_randomize(uint8_t *buf, size_t buf_length, uint64_t values[HIBERNAXO_RANDOMIZE_VALUES]);

@@ -501,6 +501,95 @@ static void purging(void)
     KEPT(buf);
 }
 
+/* A message of two packages with a count, number 2^32 - 1, worked out by hand: its clean form, and its fragments of 12 bytes. */
+static const char WHOLE[] = "12A05BCF 00000007 FFFFFFFF 00000040 00000064 00000000 87060000 000200FF"
+                            "00000001 000D0000 00000000 AA112233 00000002 00105500 0000000A DEADBEEF";
+static const char WHOLE_CLEAN[] = "120000CF 00000007 FFFFFFFF 00000040 00000064 00000000 87060000 00020000"
+                                  "00000001 000D0000 00000000 AA000000 00000002 00100000 0000000A DEADBEEF";
+static const char FRAGMENTS[] = "130000DF 00000007 FFFFFFFF 00000030 00000064 00000000 87060000 00028606 00000000 00000001 000D0000 00000000"
+                                "120000EF 00000007 00000000 0000002C 00000064 00000000 86060000 000C0000 AA000000 00000002 00100000"
+                                "120000FF 00000007 00000001 00000028 00000064 00000000 86060000 00180000 0000000A DEADBEEF";
+
+/* The fragments with other bytes from an index on. */
+static struct lent fragments_with(size_t at, const char *text)
+{
+    struct lent s = bytes_of(FRAGMENTS);
+    from_hex(text, s.bytes + at);
+    return shut(s);
+}
+
+static void cutting(void)
+{
+    struct lent whole = input(WHOLE), nothing = zeros(0), large = zeros(LARGEST + 1), out = buffer(140);
+    CALL(hibernaxo_cut, whole.bytes, whole.length, 12, out.bytes, out.length, values(HIBERNAXO_CUT_VALUES));
+    EXPECT(HIBERNAXO_OK, 0, 132, 3);
+    WRITTEN(out, FRAGMENTS);
+    out = buffer(70);
+    CALL(hibernaxo_cut, whole.bytes, whole.length, 32, out.bytes, out.length, values(HIBERNAXO_CUT_VALUES));
+    EXPECT(HIBERNAXO_OK, 0, 64, 1);
+    WRITTEN(out, WHOLE_CLEAN);
+    out = buffer(131);
+    CALL(hibernaxo_cut, whole.bytes, whole.length, 12, out.bytes, out.length, values(HIBERNAXO_CUT_VALUES));
+    EXPECT(HIBERNAXO_ROOM, 132);
+    CALL(hibernaxo_cut, whole.bytes, whole.length, 10, out.bytes, out.length, values(HIBERNAXO_CUT_VALUES));
+    EXPECT(HIBERNAXO_LENGTH, 0);
+    CALL(hibernaxo_cut, whole.bytes, whole.length, 0, out.bytes, out.length, values(HIBERNAXO_CUT_VALUES));
+    EXPECT(HIBERNAXO_LENGTH, 0);
+    CALL(hibernaxo_cut, nothing.bytes, nothing.length, 12, out.bytes, out.length, values(HIBERNAXO_CUT_VALUES));
+    EXPECT(HIBERNAXO_SHORT, 0);
+    CALL(hibernaxo_cut, large.bytes, large.length, 12, out.bytes, out.length, values(HIBERNAXO_CUT_VALUES));
+    EXPECT(HIBERNAXO_LARGE, LARGEST);
+    /* 0x86 behind an option of one byte, in a message that fits */
+    struct lent offset = input("12000080 00000007 00000005 00000030 00000064 00000000 01860600 00000000 00000001 00100000 00000000 00000000");
+    CALL(hibernaxo_cut, offset.bytes, offset.length, 16, out.bytes, out.length, values(HIBERNAXO_CUT_VALUES));
+    EXPECT(HIBERNAXO_OPTION, 25);
+    KEPT(out);
+}
+
+static void joining(void)
+{
+    struct lent s = input(FRAGMENTS), whole = input(WHOLE), nothing = zeros(0), large = zeros(LARGEST + 1), out = buffer(70);
+    CALL(hibernaxo_join, s.bytes, s.length, out.bytes, out.length, values(HIBERNAXO_JOIN_VALUES));
+    EXPECT(HIBERNAXO_OK, 0, 64);
+    WRITTEN(out, WHOLE_CLEAN);
+    out = buffer(64);
+    CALL(hibernaxo_join, whole.bytes, whole.length, out.bytes, out.length, values(HIBERNAXO_JOIN_VALUES));
+    EXPECT(HIBERNAXO_OK, 0, 64);
+    WRITTEN(out, WHOLE_CLEAN);
+    out = buffer(63);
+    CALL(hibernaxo_join, s.bytes, s.length, out.bytes, out.length, values(HIBERNAXO_JOIN_VALUES));
+    EXPECT(HIBERNAXO_ROOM, 64);
+    /* the first missing, the last missing, nothing at all */
+    CALL(hibernaxo_join, s.bytes + 48, s.length - 48, out.bytes, out.length, values(HIBERNAXO_JOIN_VALUES));
+    EXPECT(HIBERNAXO_GAP, 0);
+    CALL(hibernaxo_join, s.bytes, 92, out.bytes, out.length, values(HIBERNAXO_JOIN_VALUES));
+    EXPECT(HIBERNAXO_GAP, 92);
+    CALL(hibernaxo_join, nothing.bytes, nothing.length, out.bytes, out.length, values(HIBERNAXO_JOIN_VALUES));
+    EXPECT(HIBERNAXO_GAP, 0);
+    /* another id, another number, an offset in words, and the end inside a fragment */
+    s = fragments_with(52, "00000008");
+    CALL(hibernaxo_join, s.bytes, s.length, out.bytes, out.length, values(HIBERNAXO_JOIN_VALUES));
+    EXPECT(HIBERNAXO_GAP, 48);
+    s = fragments_with(100, "00000002");
+    CALL(hibernaxo_join, s.bytes, s.length, out.bytes, out.length, values(HIBERNAXO_JOIN_VALUES));
+    EXPECT(HIBERNAXO_GAP, 92);
+    s = fragments_with(76, "00030000");
+    CALL(hibernaxo_join, s.bytes, s.length, out.bytes, out.length, values(HIBERNAXO_JOIN_VALUES));
+    EXPECT(HIBERNAXO_GAP, 48);
+    CALL(hibernaxo_join, s.bytes, 47, out.bytes, out.length, values(HIBERNAXO_JOIN_VALUES));
+    EXPECT(HIBERNAXO_CUT, 0);
+    /* a bad package, and a count of three */
+    s = fragments_with(40, "000B0000");
+    CALL(hibernaxo_join, s.bytes, s.length, out.bytes, out.length, values(HIBERNAXO_JOIN_VALUES));
+    EXPECT(HIBERNAXO_PACKAGE, 0);
+    s = fragments_with(28, "00038606");
+    CALL(hibernaxo_join, s.bytes, s.length, out.bytes, out.length, values(HIBERNAXO_JOIN_VALUES));
+    EXPECT(HIBERNAXO_COUNT, 0);
+    CALL(hibernaxo_join, large.bytes, large.length, out.bytes, out.length, values(HIBERNAXO_JOIN_VALUES));
+    EXPECT(HIBERNAXO_LARGE, LARGEST);
+    KEPT(out);
+}
+
 /* A state with so many ids held, and these first two with their next numbers; zero in the other places. */
 static struct lent state_of(uint32_t held, uint32_t first, uint32_t first_next, uint32_t second, uint32_t second_next)
 {
@@ -909,7 +998,7 @@ static void writing_captures(void)
 
 int main(void)
 {
-    static void (*const groups[])(void) = {headers, packages, checks, writing, cleaning, sheets, copies, steps, purging, randomizing, bursts, reading_ids, writing_ids, salvages, reading_captures, writing_captures};
+    static void (*const groups[])(void) = {headers, packages, checks, writing, cleaning, sheets, copies, steps, purging, cutting, joining, randomizing, bursts, reading_ids, writing_ids, salvages, reading_captures, writing_captures};
     signal(SIGSEGV, touched);
     signal(SIGBUS, touched);
     for (size_t k = 0; k < sizeof groups / sizeof *groups; k++) {

@@ -6,7 +6,7 @@ use crate::ids::{self, IdRange, MOST_RANGES};
 use crate::refusal::Refusal;
 use crate::render::Draft;
 use crate::steps::{self, Running, State, MOST_IDS};
-use crate::{burst, capture, copy, parse, purge, render, salvage, sheet};
+use crate::{burst, capture, copy, fragments, parse, purge, render, salvage, sheet};
 
 #[derive(Clone, Copy, Debug, PartialEq, Eq)]
 pub struct Answer<const N: usize> {
@@ -249,6 +249,20 @@ pub fn read_capture(file: &[u8], port: u16, out: &mut [u8]) -> Answer<6> {
 pub fn write_capture(recording: &[u8], port: u16, out: &mut [u8]) -> Answer<3> {
     match capture::write_capture(recording, port, out) {
         Ok(written) => Answer::success(&[written.bytes, written.messages]),
+        Err(refusal) => Answer::refused(refusal),
+    }
+}
+
+pub fn cut(message: &[u8], size: usize, out: &mut [u8]) -> Answer<3> {
+    match fragments::cut(message, size, out) {
+        Ok(cut) => Answer::success(&[cut.bytes, cut.fragments]),
+        Err(refusal) => Answer::refused(refusal),
+    }
+}
+
+pub fn join(fragments: &[u8], out: &mut [u8]) -> Answer<2> {
+    match fragments::join(fragments, out) {
+        Ok(bytes) => Answer::success(&[bytes]),
         Err(refusal) => Answer::refused(refusal),
     }
 }

@@ -6,7 +6,7 @@
 
 use crate::parse::{message_at, read_recording, Message};
 use crate::refusal::*;
-use crate::render::{render, rendered_length};
+use crate::render::{rendered, rendered_length};
 
 pub const MAGIC: u32 = 0xA1B2_C3D4;
 pub const FILE_HEADER_BYTES: usize = 24;
@@ -230,8 +230,7 @@ fn record_of(message: &Message, port: u16) -> Vec<u8> {
 
 /// The packet that carries a message's clean form.
 fn packet_of(message: &Message, port: u16) -> Vec<u8> {
-    let mut data = vec![0; rendered_length(message)];
-    render(message, &mut data);
+    let data = rendered(message);
     let mut packet = vec![0; 12];
     packet.extend(TYPE_IPV4.to_be_bytes());
     packet.extend(ip_header(IP_BYTES + UDP_BYTES + data.len()));

@@ -1,6 +1,7 @@
 //! The seeded cases: each has its own dice and is of one kind.
 
 mod captures;
+mod fragments;
 mod salvages;
 
 use crate::burst::{CODEBLOCK_BYTES, MARKER_BYTES};
@@ -44,7 +45,7 @@ const KINDS: [(u64, Case); 15] = [
 ];
 
 /// What is tried beside these cases: one case beside each so many of them.
-const BESIDE: [(u64, Case); 13] = [
+const BESIDE: [(u64, Case); 15] = [
     (7, pair_case),
     (8, purge_case),
     (12, purging_case),
@@ -58,6 +59,8 @@ const BESIDE: [(u64, Case); 13] = [
     (10, salvages::bad_block),
     (6, captures::capture),
     (14, captures::capturing),
+    (6, fragments::fragments),
+    (10, fragments::fragmenting),
 ];
 
 /// Runs the case with this number, and what is tried beside it.

@@ -103,6 +103,21 @@ pub mod raw {
             out_len: usize,
             values: *mut u64,
         ) -> u32;
+        pub fn hibernaxo_cut(
+            message: *const u8,
+            len: usize,
+            size: usize,
+            out: *mut u8,
+            out_len: usize,
+            values: *mut u64,
+        ) -> u32;
+        pub fn hibernaxo_join(
+            fragments: *const u8,
+            len: usize,
+            out: *mut u8,
+            out_len: usize,
+            values: *mut u64,
+        ) -> u32;
     }
 }
 
@@ -307,6 +322,31 @@ pub fn write_capture(recording: &mut [u8], port: u16, out: &mut [u8]) -> Given<3
             recording.as_mut_ptr(),
             recording.len(),
             port,
+            out.as_mut_ptr(),
+            out.len(),
+            values,
+        )
+    })
+}
+
+pub fn cut(message: &mut [u8], size: usize, out: &mut [u8]) -> Given<3> {
+    call(|values| unsafe {
+        raw::hibernaxo_cut(
+            message.as_mut_ptr(),
+            message.len(),
+            size,
+            out.as_mut_ptr(),
+            out.len(),
+            values,
+        )
+    })
+}
+
+pub fn join(fragments: &mut [u8], out: &mut [u8]) -> Given<2> {
+    call(|values| unsafe {
+        raw::hibernaxo_join(
+            fragments.as_mut_ptr(),
+            fragments.len(),
             out.as_mut_ptr(),
             out.len(),
             values,

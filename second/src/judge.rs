@@ -6,7 +6,7 @@ use crate::refusal::{NAMES, NUMBERS};
 use std::fmt::Write;
 
 /// The exports, and the refusal numbers that each of them can give.
-pub const EXPORTS: [(&str, &[u32]); 17] = [
+pub const EXPORTS: [(&str, &[u32]); 19] = [
     ("header", &[1, 2, 3, 4, 5, 6, 7, 12]),
     ("package", &[10, 12]),
     ("check", &[1, 2, 3, 4, 5, 6, 7, 8, 9, 10, 12, 17]),
@@ -24,6 +24,8 @@ pub const EXPORTS: [(&str, &[u32]); 17] = [
     ("salvage", &[12, 13, 22]),
     ("read_capture", &[12, 13, 18]),
     ("write_capture", &[1, 2, 3, 4, 5, 6, 7, 8, 9, 10, 12, 13, 17]),
+    ("cut", &[1, 2, 3, 4, 5, 6, 7, 8, 9, 10, 12, 13, 17]),
+    ("join", &[1, 2, 3, 4, 5, 6, 7, 9, 10, 12, 13, 17, 21]),
 ];
 
 /// So many differences are printed; the others are only counted.

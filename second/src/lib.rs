@@ -8,6 +8,7 @@
 pub mod burst;
 pub mod capture;
 pub mod copy;
+pub mod fragments;
 pub mod ids;
 pub mod paper;
 pub mod parse;
@@ -29,6 +30,7 @@ pub mod lines;
 pub mod orders;
 pub mod packets;
 pub mod pairs;
+pub mod pieces;
 pub mod rests;
 pub mod runs;
 pub mod seams;
@@ -43,6 +45,8 @@ pub mod cases;
 pub mod demand;
 #[cfg(feature = "exports")]
 pub mod exports;
+#[cfg(feature = "exports")]
+pub mod fragmenting;
 #[cfg(feature = "exports")]
 pub mod in_turn;
 pub mod judge;

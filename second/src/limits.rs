@@ -2,6 +2,7 @@
 //! paper's own numbers. They are part of every run.
 
 mod captures;
+mod fragments;
 mod ids;
 mod salvages;
 mod steps;
@@ -30,7 +31,7 @@ use crate::side_by_side;
 type Part = fn(&mut Limits);
 
 /// The parts in their order.
-const PARTS: [(&str, Part); 22] = [
+const PARTS: [(&str, Part); 23] = [
     ("the paper's numbers", paper_numbers),
     ("sizes", sizes),
     ("faults", faults),
@@ -51,6 +52,7 @@ const PARTS: [(&str, Part); 22] = [
     ("steps", steps::steps),
     ("salvages", salvages::salvages),
     ("captures", captures::captures),
+    ("fragments", fragments::fragments),
     ("demand 3", demand_3),
     ("round trips", round_trips),
 ];

@@ -89,7 +89,7 @@ pub fn package_time(seconds: u32, nanoseconds: u32, delta: u32) -> u64 {
     u64::from(seconds) * 1_000_000_000 + u64::from(nanoseconds) + u64::from(delta)
 }
 
-fn number_at(bytes: &[u8], at: usize) -> u32 {
+pub fn number_at(bytes: &[u8], at: usize) -> u32 {
     u32::from_be_bytes([bytes[at], bytes[at + 1], bytes[at + 2], bytes[at + 3]])
 }
 
@@ -100,7 +100,7 @@ pub fn read_header(input: &[u8]) -> Result<Header<'_>, Refusal> {
 }
 
 /// Checks 1 to 7 for the message at this place.
-fn header_at(input: &[u8], place: usize) -> Result<Header<'_>, Refusal> {
+pub fn header_at(input: &[u8], place: usize) -> Result<Header<'_>, Refusal> {
     let left = &input[place..];
     ask(left.len() >= HEADER_BYTES, SHORT, place)?;
     ask(left[0] >> 4 == 1, VERSION, place)?;
@@ -151,16 +151,21 @@ pub fn options_end(options: &[u8]) -> Result<usize, usize> {
     Ok(at)
 }
 
-/// Where the package count stands in a good option run, if it is there.
-pub fn count_place(run: &[u8]) -> Option<usize> {
+/// Where the first option of this kind stands in a good option run, if it is there.
+pub fn option_place(run: &[u8], kind: u8) -> Option<usize> {
     let mut at = 0;
     while at < run.len() {
-        if run[at] == COUNT_KIND {
+        if run[at] == kind {
             return Some(at);
         }
         at += option_length(run[at], &run[at + 1..])?;
     }
     None
+}
+
+/// Where the package count stands in a good option run, if it is there.
+pub fn count_place(run: &[u8]) -> Option<usize> {
+    option_place(run, COUNT_KIND)
 }
 
 /// Does the package count, where a good option run has one, equal the packages?

@@ -21,13 +21,15 @@ pub const COUNT: u32 = 17;
 pub const CAPTURE: u32 = 18;
 /// It stands first of all for a state, and before ROOM for a 65th id.
 pub const IDS: u32 = 20;
+/// In joining it stands in the place of FRAGMENT.
+pub const GAP: u32 = 21;
 pub const HOLES: u32 = 22;
 
 /// Every refusal number is below this; 0 is success.
 pub const NUMBERS: usize = 23;
 
 /// The refusal numbers and their names.
-pub const NAMES: [(u32, &str); 20] = [
+pub const NAMES: [(u32, &str); 21] = [
     (SHORT, "SHORT"),
     (VERSION, "VERSION"),
     (TYPE, "TYPE"),
@@ -47,6 +49,7 @@ pub const NAMES: [(u32, &str); 20] = [
     (COUNT, "COUNT"),
     (CAPTURE, "CAPTURE"),
     (IDS, "IDS"),
+    (GAP, "GAP"),
     (HOLES, "HOLES"),
 ];
 

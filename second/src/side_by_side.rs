@@ -30,6 +30,8 @@ const STEP: usize = 13;
 const SALVAGE: usize = 14;
 const READ_CAPTURE: usize = 15;
 const WRITE_CAPTURE: usize = 16;
+const CUT: usize = 17;
+const JOIN: usize = 18;
 
 pub fn header(judge: &mut Judge, dice: &mut Dice, bytes: &[u8]) -> Answer<10> {
     let mut input = Lent::new(dice, bytes);
@@ -282,6 +284,39 @@ pub fn write_capture(
     let expected = answers::write_capture(recording, port, out.expected());
     let buffers = [("recording", &input), ("out", &out)];
     judge.settle(WRITE_CAPTURE, &[("port", port.into())], expected, given, &buffers);
+    (given.answer, out.content().to_vec())
+}
+
+/// Cuts a message into a buffer of so many bytes.
+pub fn cut(
+    judge: &mut Judge,
+    dice: &mut Dice,
+    message: &[u8],
+    size: usize,
+    room: usize,
+) -> (Answer<3>, Vec<u8>) {
+    let mut input = Lent::new(dice, message);
+    let mut out = Lent::buffer(dice, room);
+    let given = exports::cut(input.lend(), size, out.lend());
+    let expected = answers::cut(message, size, out.expected());
+    let buffers = [("message", &input), ("out", &out)];
+    judge.settle(CUT, &[("size", size as u64)], expected, given, &buffers);
+    (given.answer, out.content().to_vec())
+}
+
+/// Joins fragments into a buffer of so many bytes.
+pub fn join(
+    judge: &mut Judge,
+    dice: &mut Dice,
+    fragments: &[u8],
+    room: usize,
+) -> (Answer<2>, Vec<u8>) {
+    let mut input = Lent::new(dice, fragments);
+    let mut out = Lent::buffer(dice, room);
+    let given = exports::join(input.lend(), out.lend());
+    let expected = answers::join(fragments, out.expected());
+    let buffers = [("fragments", &input), ("out", &out)];
+    judge.settle(JOIN, &[], expected, given, &buffers);
     (given.answer, out.content().to_vec())
 }
 

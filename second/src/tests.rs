@@ -3,6 +3,7 @@
 
 mod capture;
 mod changed_rules;
+mod fragments;
 mod ids;
 mod purge;
 mod salvage;

@@ -16,6 +16,7 @@ use Rattle.rules.specs.Copy.{Answer}
 use Rattle.rules.specs.Burst.{Randomized, Opened}
 use Rattle.numbered.specs.Numbering.{State}
 use Rattle.numbered.specs.Quota.{Report}
+use Rattle.fragments.specs.Cutting.{CutAnswer}
 use Rattle.ids.specs.Reader.{Range, mostItems}
 use Rattle.ids.specs.declared.IdRange.{IdRange}
 use Rattle.salvage.specs.Salvage as salvage
@@ -50,12 +51,19 @@ draft f i q s n o p = record { flags = f; id = i; sequence = q; seconds = s; nan
 abbrev pub withBuffer : {A : Type 0} → (A → ℕ × List ℕ) → A × List ℕ → ℕ × List ℕ × List ℕ
 withBuffer values (a, buffer) = (values a .0, values a .1, buffer)
 
--- a message written or cleaned, and a recording purged: bytes
+-- a message written, cleaned or joined, and a recording purged: bytes
 abbrev pub writtenValues : Written → ℕ × List ℕ
 writtenValues w = (w .number, w .place ∷ w .bytes ∷ [])
 
 abbrev pub writtenTold : Written × List ℕ → ℕ × List ℕ × List ℕ
 writtenTold = withBuffer writtenValues
+
+-- a message cut: bytes and fragments
+abbrev pub cutValues : CutAnswer → ℕ × List ℕ
+cutValues a = (a .number, a .place ∷ a .bytes ∷ a .fragments ∷ [])
+
+abbrev pub cutTold : CutAnswer × List ℕ → ℕ × List ℕ × List ℕ
+cutTold = withBuffer cutValues
 
 -- a sheet: how many rows it has, and nine values for each row, the last 1 where it is for acquired data only
 abbrev pub oneIf : Bool → ℕ

@@ -7,6 +7,7 @@ use capture::CaptureRead;
 use capture::CaptureWritten;
 use compose::Record;
 use compose::Written;
+use fragments::Fragmented;
 use ids::IdRange;
 use ids::IdsAnswer;
 use message::Checked;
@@ -36,6 +37,9 @@ ghost use Rattle.rules.specs.Sheet.{sheetRows};
 ghost use Rattle.rules.specs.Copy.{measurement, copy};
 ghost use Rattle.rules.specs.Burst.{randomizer, opener};
 ghost use Rattle.purge.specs.Purge as purging;
+ghost use Rattle.fragments.specs.Cutting.{cutter};
+ghost use Rattle.fragments.specs.Joining.{joiner};
+ghost use Rattle.fragments.specs.Told.{cutNumbers};
 ghost use Rattle.refusal.specs.Numbers.{numberOf};
 ghost use Rattle.sheet.specs.Rows.{rowIn};
 ghost use Rattle.compose.specs.Told.{numbers};
@@ -51,7 +55,7 @@ ghost use Rattle.salvage.specs.Told as salvaged;
 ghost use Rattle.capture.specs.Reading.{readCapture};
 ghost use Rattle.capture.specs.Writing.{writeCapture};
 ghost use Rattle.capture.specs.Told.{numbersRead, numbersWritten};
-ghost use Rattle.hibernaxo.specs.Told.{headerTold, stepTold, checkTold, draft, writtenValues, writtenTold, rowValues, sheetTold, answerValues, copyTold, numbersFrom, stateAt, stateValues, reportValues, steppedTold, randomizedTold, openedTold, rangeValues, idsTold, rangesIn, stretchValues, salvageValues, salvageTold, readValues, readTold, sentValues, sentTold};
+ghost use Rattle.hibernaxo.specs.Told.{headerTold, stepTold, checkTold, draft, writtenValues, writtenTold, rowValues, sheetTold, answerValues, copyTold, numbersFrom, stateAt, stateValues, reportValues, steppedTold, randomizedTold, openedTold, rangeValues, idsTold, rangesIn, stretchValues, salvageValues, salvageTold, readValues, readTold, sentValues, sentTold, cutValues, cutTold};
 
 // The number of a refusal.
 fn number_in(x: Refusal) -> u32
@@ -138,7 +142,7 @@ pub extern "C" fn hibernaxo_check(recording: &[u8], values: &mut [u64; 3]) -> u3
     }
 }
 
-// What the writer, the cleaner, the purge and the writer of ids answered.
+// What the writer, the cleaner, the purge, joining and the writer of ids answered.
 fn put_written(a: Written, values: &mut [u64; 2]) -> u32
     ensures { λ r. ⌜ (r, now (values .exit)) ≡ writtenValues (numbers a) ⌝ }
 {
@@ -195,6 +199,45 @@ pub extern "C" fn hibernaxo_purge(buffer: &mut [u8], sheet: &[u8], values: &mut 
     ensures { λ r. ⌜ (r, now (values .exit), now (buffer .exit)) ≡ writtenTold (purging.purge (now (buffer .entry)) (now (sheet .entry))) ⌝ }
 {
     let a = purge::purge(buffer, sheet);
+    put_written(a, values)
+}
+
+// What cutting answered.
+fn put_cut(a: Fragmented, values: &mut [u64; 3]) -> u32
+    ensures { λ r. ⌜ (r, now (values .exit)) ≡ cutValues (cutNumbers a) ⌝ }
+{
+    match a {
+        Fragmented::Done { bytes, fragments } => {
+            *values = [0, bytes as u64, fragments as u64];
+            0
+        }
+        Fragmented::Refused(x) => {
+            *values = [x.place as u64, 0, 0];
+            number_in(x)
+        }
+    }
+}
+
+// The clean form of one message, cut into fragments: bytes and fragments.
+#[no_mangle]
+pub extern "C" fn hibernaxo_cut(
+    message: &[u8],
+    size: usize,
+    out: &mut [u8],
+    values: &mut [u64; 3],
+) -> u32
+    ensures { λ r. ⌜ (r, now (values .exit), now (out .exit)) ≡ cutTold (cutter size (now (message .entry)) (now (out .entry))) ⌝ }
+{
+    let a = fragments::cut(message, size, out);
+    put_cut(a, values)
+}
+
+// Fragments joined, or one whole message cleaned: bytes.
+#[no_mangle]
+pub extern "C" fn hibernaxo_join(fragments: &[u8], out: &mut [u8], values: &mut [u64; 2]) -> u32
+    ensures { λ r. ⌜ (r, now (values .exit), now (out .exit)) ≡ writtenTold (joiner (now (fragments .entry)) (now (out .entry))) ⌝ }
+{
+    let a = fragments::join(fragments, out);
     put_written(a, values)
 }
 

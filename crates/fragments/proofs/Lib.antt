@@ -1,0 +1,27 @@
+-- The laws about fragments.
+pub mod Parts
+pub mod Options
+pub mod Again
+pub mod From
+pub mod Chunks
+pub mod Cutting
+pub mod Back
+pub mod Order
+pub mod Readings
+pub mod Joining
+pub mod One
+pub mod Finding
+pub mod Stores
+pub mod Distributing
+pub mod Beginning
+pub mod Answering
+pub mod Scan
+pub mod Headers
+pub mod Steps
+pub mod Gathering
+pub mod Keeping
+pub mod Payloads
+pub mod Finishing
+pub mod Each
+pub mod Worked
+pub mod Claims
