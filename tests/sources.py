@@ -165,9 +165,9 @@ class Change:
         return found
 
 
-def edits():
-    """The must-fail edits of all crates."""
-    for path in sorted(glob.glob(f"{ROOT}/crates/*/must-fail/*.edit")):
+def edits(folder="*"):
+    """The must-fail edits of all crates, which rt tries, and their wrong definitions, which tests/wrong_answers tries; or those of one folder."""
+    for path in sorted(glob.glob(f"{ROOT}/crates/*/{folder}/*.edit")):
         steps, where = [], None
         for line in read(path).splitlines():
             word, _, rest = line.partition(": ")
