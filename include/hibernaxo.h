@@ -1,8 +1,8 @@
 /* hibernaxo: reading, checking, writing, cleaning and salvaging network recordings, order sheets, the release copy, the
- * purge, fragments, bursts, ids as a line of text, and captures from the switch.
+ * purge, fragments, bursts, ids as a line of text, captures from the switch and radio messages.
  *
- * Each function returns a refusal number, HIBERNAXO_OK for success, and stores its values on every call. values[0] is
- * always the place of the refusal, a byte offset in the input named, or what the number says below; on success it is 0.
+ * Each function but hibernaxo_link_row, which refuses nothing, returns a refusal number, HIBERNAXO_OK for success, and
+ * stores its values on every call. values[0] is then always the place of the refusal, a byte offset in the input named, or what the number says below; on success it is 0.
  * On a refusal every other value is 0, and no byte of a lent buffer changes; only a walk's place comes back as it was
  * handed in.
  *
@@ -42,6 +42,7 @@ enum hibernaxo_refusal {
     HIBERNAXO_TEXT = 16,     /* the first byte that breaks the form of a line of ids, or the line's end; then the first digit of an item against the rules; in writing, the range's index */
     HIBERNAXO_COUNT = 17,    /* option 0x87 says another number than that of the packages: the message; 0 in the writer */
     HIBERNAXO_CAPTURE = 18,  /* a capture file's bad header: 0; a record that the file's end cuts: the record */
+    HIBERNAXO_RADIO = 19,    /* a radio message's header or TLV against the rules, or no TLV at all: the TLV, in writing where it would stand; 0 for the header and for no TLV */
     HIBERNAXO_IDS = 20,      /* a state with more than 64 ids or one id twice: 0; a 65th id among the delivered ones: its message */
     HIBERNAXO_GAP = 21,      /* fragments that are no whole set in order: the first that does not continue those before it; the input's end where the last is missing */
     HIBERNAXO_HOLES = 22     /* more than 64 stretches would be skipped: the first byte of the 65th */
@@ -67,6 +68,11 @@ enum hibernaxo_refusal {
 #define HIBERNAXO_SALVAGE_VALUES 132
 #define HIBERNAXO_READ_CAPTURE_VALUES 6
 #define HIBERNAXO_WRITE_CAPTURE_VALUES 3
+#define HIBERNAXO_READ_RADIO_VALUES 5
+#define HIBERNAXO_RADIO_TLV_VALUES 14
+#define HIBERNAXO_PUT_RADIO_TLV_VALUES 2
+#define HIBERNAXO_WRITE_RADIO_VALUES 2
+#define HIBERNAXO_LINK_ROW_VALUES 4
 
 /* A state is an array of 32-bit numbers: how many ids it holds, then the ids, and as many places behind each id the
  * sequence number that its next message gets. A state with no id is all zero. */
@@ -86,6 +92,15 @@ enum hibernaxo_refusal {
 
 /* The most stretches that a salvage reports. */
 #define HIBERNAXO_STRETCHES 64
+/* Where the first TLV of a radio message stands, and how many fields the longest has. */
+#define HIBERNAXO_RADIO_HEADER 10
+#define HIBERNAXO_PUT_RADIO_TLV_FIELDS 11
+
+/* How many readings a link metric has, and what each is. */
+#define HIBERNAXO_LINK_ROW_KINDS 3
+#define HIBERNAXO_READING_MISSING 0
+#define HIBERNAXO_READING_LEVEL 1
+#define HIBERNAXO_READING_RATE 2
 
 /* Reads the header of the message at the start of bytes (refusals 12 and 1 to 7; its packages are not counted).
  * values: [1] the option word count W, [2] flag bits 7 to 0, [3] message id, [4] sequence number, [5] length,
@@ -195,6 +210,48 @@ uint32_t hibernaxo_read_capture(const uint8_t *file, size_t file_length, uint16_
  * at most 65,536 bytes can be read again. values: [1] bytes, [2] messages written; bytes of out behind them stay. */
 uint32_t hibernaxo_write_capture(const uint8_t *recording, size_t recording_length, uint16_t port, uint8_t *out,
                                  size_t out_length, uint64_t values[HIBERNAXO_WRITE_CAPTURE_VALUES]);
+
+/* Reads the radio message that is the whole of bytes (refusals 12 and 19).
+ * values: [1] destination RF MAC address, [2] source RF MAC address, [3] sequence number, [4] how many TLVs it has. */
+uint32_t hibernaxo_read_radio(const uint8_t *bytes, size_t bytes_length, uint64_t values[HIBERNAXO_READ_RADIO_VALUES]);
+
+/* One step over the TLVs of a radio message, from place at (refusals 12 and 19). The first TLV stands at 10; at may be
+ * any number, and from bytes_length on it is the end. The message's header is not looked at.
+ * values: [1] the TLV's type, 0 at the end, [2] the next place: behind the TLV if one is shown, otherwise at, on a
+ * refusal too; then from [3] on its fields, zero behind the last:
+ *   type 1, TxOp assignment: centre frequency in units of 250 kHz, TxOp id, timeout, start and stop in microseconds;
+ *   type 5, heartbeat: timeout;
+ *   type 6, link metric: seconds, microseconds, centre frequency in units of 250 kHz, RSSI and CINR as their bytes
+ *   (two's complement), error rate in units of 1/256;
+ *   type 10, TE queue status report: seconds, microseconds, MSLPID, eight queue levels. */
+uint32_t hibernaxo_radio_tlv(const uint8_t *bytes, size_t bytes_length, size_t at,
+                             uint64_t values[HIBERNAXO_RADIO_TLV_VALUES]);
+
+/* Puts one TLV of type kind at place at of out. fields are in the order in which a step shows them from values[3] on, so
+ * that values + 3 may be handed over; those behind the type's own are not looked at. Refusals, in this order: 19, if kind
+ * is not 1, 5, 6 or 10, or a field does not fit its bits: 8 for seconds, RSSI, CINR, error rate and a TxOp's timeout, 16
+ * for centre frequency, TxOp id, a heartbeat's timeout and queue levels, 32 for start, stop, microseconds and MSLPID;
+ * 12, if the TLV would end above 65,536; 19, if start, stop or microseconds are above 999,999 or seconds above 63; and
+ * 13. The place of 19 is at, that of 13 where the TLV would end.
+ * values: [1] bytes written, which is the TLV's length; every other byte of out stays. */
+uint32_t hibernaxo_put_radio_tlv(uint32_t kind, const uint64_t fields[HIBERNAXO_PUT_RADIO_TLV_FIELDS], uint8_t *out,
+                                 size_t out_length, size_t at, uint64_t values[HIBERNAXO_PUT_RADIO_TLV_VALUES]);
+
+/* Writes a radio message into out from its header's numbers and a run of TLVs (refusals 12, 19 and 13): 12 if 10 bytes
+ * and the run are above 65,536; 19 at 0 for an empty run, and at 10 + its place in the run for the first bad TLV; 13 with
+ * all the bytes needed. Reserved bits of the run are not looked at, and are written zero. The bytes of a message that was
+ * read, from place 10 on, are such a run.
+ * values: [1] bytes written; bytes of out behind them stay. */
+uint32_t hibernaxo_write_radio(uint16_t destination, uint16_t source, uint32_t sequence, const uint8_t *run,
+                               size_t run_length, uint8_t *out, size_t out_length,
+                               uint64_t values[HIBERNAXO_WRITE_RADIO_VALUES]);
+
+/* The row of a link metric for a plotting tool. It refuses nothing and returns nothing.
+ * kinds: what RSSI, CINR and error rate are, 0 missing, 1 a level, 2 a rate.
+ * values: [0] centre frequency in MHz, [1] RSSI in dBm, [2] CINR in dB, [3] error rate, each exactly the field divided by
+ * 4, 1, 1 and 256, and 0.0 where the reading is missing. */
+void hibernaxo_link_row(uint16_t frequency, int8_t rssi, int8_t cinr, uint8_t errors,
+                        uint8_t kinds[HIBERNAXO_LINK_ROW_KINDS], double values[HIBERNAXO_LINK_ROW_VALUES]);
 
 #ifdef __cplusplus
 }

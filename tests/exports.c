@@ -2,7 +2,8 @@
  * header announces and lies against a page that must not be touched, first with its end and then with its beginning; guard bytes fill the
  * other side, and inputs cannot be written. What comes back is typed from document 01, M, R, P1 to P12 and the table of refusals, and from document 02.
  *
- * Prints the name of each export that has given an answer and a refusal, one to a line; tests/exports asks that these are all of the header.
+ * Prints the name of each export that has given an answer and a refusal, one to a line, and of hibernaxo_link_row, which refuses nothing;
+ * tests/exports asks that these are all of the header.
  * It is C11 and C++17. */
 #ifndef _DEFAULT_SOURCE
 #define _DEFAULT_SOURCE
@@ -996,9 +997,187 @@ static void writing_captures(void)
     KEPT(out);
 }
 
+/* A radio message with a TLV of each type, worked out by hand from the tables of 24.3 of source document 000: its header and its TLVs, which
+ * stand at 10, 23, 27 and 38, with every reserved bit set, and the TLVs with those that are reserved zero. */
+static const char HEAD[] = "003F 1234 5678 00000007";
+static const char TXOP[] = "010D 2328 80 0102 05 30D40F423F";
+static const char HEARTBEAT[] = "0504 FFFE";
+static const char METRIC[] = "060B 03FF423F 2329 C4 80 03";
+static const char REPORT[] = "0A1B 2A014345 00000011 00 0001 0002 0003 0004 0005 0006 0007 0008";
+static const char RADIO[] = "003F 1234 5678 00000007 010D 2328 80 0102 05 30D40F423F 0504 FFFE 060B FFFF423F 2329 C4 80 03"
+                            "0A1B EAF14345 00000011 00 0001 0002 0003 0004 0005 0006 0007 0008";
+
+/* The message with other bytes from an index on. */
+static struct lent radio_with(size_t at, const char *text)
+{
+    struct lent memory = bytes_of(RADIO);
+    from_hex(text, memory.bytes + at);
+    return shut(memory);
+}
+
+static void refuse_radio(int line, struct lent message, uint64_t place)
+{
+    const uint64_t wanted[] = {place};
+    CALL(hibernaxo_read_radio, message.bytes, message.length, values(HIBERNAXO_READ_RADIO_VALUES));
+    expect(line, HIBERNAXO_RADIO, wanted, 1);
+}
+
+static void reading_radio(void)
+{
+    struct lent message = input(RADIO);
+    CALL(hibernaxo_read_radio, message.bytes, message.length, values(HIBERNAXO_READ_RADIO_VALUES));
+    EXPECT(HIBERNAXO_OK, 0, 0x1234, 0x5678, 7, 4);
+    refuse_radio(__LINE__, input(""), 0);
+    refuse_radio(__LINE__, input("0007 1234 5678 000000"), 0);
+    refuse_radio(__LINE__, input("0008 1234 5678 00000007"), 0);
+    refuse_radio(__LINE__, radio_with(0, "003E"), 0);
+    refuse_radio(__LINE__, radio_with(0, "0041"), 0);
+    refuse_radio(__LINE__, radio_with(10, "02"), 10);
+    refuse_radio(__LINE__, radio_with(11, "0C"), 10);
+    refuse_radio(__LINE__, radio_with(14, "00"), 10);
+    refuse_radio(__LINE__, radio_with(18, "F4240F423F"), 10);
+    refuse_radio(__LINE__, radio_with(18, "30D40F4240"), 10);
+    refuse_radio(__LINE__, radio_with(29, "FFFF4240"), 27);
+    refuse_radio(__LINE__, radio_with(41, "FF4240"), 38);
+    refuse_radio(__LINE__, radio_with(48, "01"), 38);
+    refuse_radio(__LINE__, input("000B 1234 5678 00000007 0504FF"), 10);
+    message = zeros(LARGEST + 1);
+    CALL(hibernaxo_read_radio, message.bytes, message.length, values(HIBERNAXO_READ_RADIO_VALUES));
+    EXPECT(HIBERNAXO_LARGE, LARGEST);
+}
+
+static void radio_steps(void)
+{
+    struct lent message = input(RADIO);
+    CALL(hibernaxo_radio_tlv, message.bytes, message.length, HIBERNAXO_RADIO_HEADER, values(HIBERNAXO_RADIO_TLV_VALUES));
+    EXPECT(HIBERNAXO_OK, 0, 1, 23, 9000, 0x0102, 5, 200000, 999999);
+    CALL(hibernaxo_radio_tlv, message.bytes, message.length, 23, values(HIBERNAXO_RADIO_TLV_VALUES));
+    EXPECT(HIBERNAXO_OK, 0, 5, 27, 65534);
+    CALL(hibernaxo_radio_tlv, message.bytes, message.length, 27, values(HIBERNAXO_RADIO_TLV_VALUES));
+    EXPECT(HIBERNAXO_OK, 0, 6, 38, 63, 999999, 9001, 0xC4, 0x80, 3);
+    CALL(hibernaxo_radio_tlv, message.bytes, message.length, 38, values(HIBERNAXO_RADIO_TLV_VALUES));
+    EXPECT(HIBERNAXO_OK, 0, 10, 65, 42, 82757, 17, 1, 2, 3, 4, 5, 6, 7, 8);
+    CALL(hibernaxo_radio_tlv, message.bytes, message.length, 65, values(HIBERNAXO_RADIO_TLV_VALUES));
+    EXPECT(HIBERNAXO_OK, 0, 0, 65);
+    CALL(hibernaxo_radio_tlv, message.bytes, message.length, SIZE_MAX, values(HIBERNAXO_RADIO_TLV_VALUES));
+    EXPECT(HIBERNAXO_OK, 0, 0, SIZE_MAX);
+    CALL(hibernaxo_radio_tlv, message.bytes, message.length, 12, values(HIBERNAXO_RADIO_TLV_VALUES));
+    EXPECT(HIBERNAXO_RADIO, 12, 0, 12);
+    message = zeros(LARGEST + 1);
+    CALL(hibernaxo_radio_tlv, message.bytes, message.length, 12, values(HIBERNAXO_RADIO_TLV_VALUES));
+    EXPECT(HIBERNAXO_LARGE, LARGEST, 0, 12);
+}
+
+/* A TLV's fields, and whatever else behind them. */
+static const uint64_t *fields_of(const uint64_t *fields, size_t count)
+{
+    struct lent memory = lend(8 * HIBERNAXO_PUT_RADIO_TLV_FIELDS, UNWRITTEN);
+    memcpy(memory.bytes, fields, 8 * count);
+    return (const uint64_t *)(const void *)shut(memory).bytes;
+}
+
+/* Puts a TLV at 10 of a buffer of 48 bytes, where number, place and bytes are wanted; on success these bytes are written and no other. */
+static void put(int line, uint32_t kind, const uint64_t *fields, size_t count, uint32_t wanted_number, const char *text)
+{
+    struct lent out = buffer(48);
+    const uint64_t wanted[] = {wanted_number == HIBERNAXO_OK ? (uint64_t)0 : 10, from_hex(text, NULL)};
+    CALL(hibernaxo_put_radio_tlv, kind, fields_of(fields, count), out.bytes, out.length, 10, values(HIBERNAXO_PUT_RADIO_TLV_VALUES));
+    expect(line, wanted_number, wanted, 2);
+    holds(line, out, 10, text);
+    unwritten(line, out, 10 + wanted[1]);
+    out.length = 10;
+    unwritten(line, out, 0);
+}
+
+#define PUT(kind, number, text, ...)                                                            \
+    do {                                                                                        \
+        static const uint64_t fields[] = {__VA_ARGS__};                                         \
+        put(__LINE__, kind, fields, sizeof fields / sizeof *fields, number, text);              \
+    } while (0)
+
+static void putting_radio(void)
+{
+    static const uint64_t timeout[] = {65534};
+    struct lent out = buffer(13);
+    PUT(1, HIBERNAXO_OK, TXOP, 9000, 0x0102, 5, 200000, 999999);
+    PUT(5, HIBERNAXO_OK, HEARTBEAT, 65534);
+    PUT(6, HIBERNAXO_OK, METRIC, 63, 999999, 9001, 0xC4, 0x80, 3);
+    PUT(10, HIBERNAXO_OK, REPORT, 42, 82757, 17, 1, 2, 3, 4, 5, 6, 7, 8);
+    /* another type, a field above its bits, and one above its range */
+    PUT(2, HIBERNAXO_RADIO, "", 9000, 0x0102, 5, 200000, 999999);
+    PUT(0, HIBERNAXO_RADIO, "", 65534);
+    PUT(261, HIBERNAXO_RADIO, "", 65534);
+    PUT(5, HIBERNAXO_RADIO, "", 65536);
+    PUT(1, HIBERNAXO_RADIO, "", 9000, 0x0102, 256, 200000, 999999);
+    PUT(1, HIBERNAXO_RADIO, "", 9000, 0x0102, 5, 200000, 1000000);
+    PUT(1, HIBERNAXO_RADIO, "", 9000, 0x0102, 5, 4294967296, 999999);
+    PUT(6, HIBERNAXO_RADIO, "", 64, 999999, 9001, 0xC4, 0x80, 3);
+    PUT(6, HIBERNAXO_RADIO, "", 63, 999999, 9001, 0x100, 0x80, 3);
+    PUT(10, HIBERNAXO_RADIO, "", 42, 82757, 4294967296, 1, 2, 3, 4, 5, 6, 7, 8);
+    PUT(10, HIBERNAXO_RADIO, "", 42, 82757, 17, 1, 2, 3, 4, 5, 6, 7, 65536);
+    CALL(hibernaxo_put_radio_tlv, 5, fields_of(timeout, 1), out.bytes, out.length, 10, values(HIBERNAXO_PUT_RADIO_TLV_VALUES));
+    EXPECT(HIBERNAXO_ROOM, 14);
+    CALL(hibernaxo_put_radio_tlv, 5, fields_of(timeout, 1), out.bytes, out.length, 65532, values(HIBERNAXO_PUT_RADIO_TLV_VALUES));
+    EXPECT(HIBERNAXO_ROOM, 65536);
+    CALL(hibernaxo_put_radio_tlv, 5, fields_of(timeout, 1), out.bytes, out.length, 65533, values(HIBERNAXO_PUT_RADIO_TLV_VALUES));
+    EXPECT(HIBERNAXO_LARGE, LARGEST);
+    CALL(hibernaxo_put_radio_tlv, 5, fields_of(timeout, 1), out.bytes, out.length, SIZE_MAX, values(HIBERNAXO_PUT_RADIO_TLV_VALUES));
+    EXPECT(HIBERNAXO_LARGE, LARGEST);
+    KEPT(out);
+}
+
+static void writing_radio(void)
+{
+    struct lent message = input(RADIO), out = buffer(70);
+    CALL(hibernaxo_write_radio, 0x1234, 0x5678, 7, message.bytes + 10, message.length - 10, out.bytes, out.length, values(HIBERNAXO_WRITE_RADIO_VALUES));
+    EXPECT(HIBERNAXO_OK, 0, 65);
+    HOLDS(out, 0, HEAD);
+    HOLDS(out, 10, TXOP);
+    HOLDS(out, 23, HEARTBEAT);
+    HOLDS(out, 27, METRIC);
+    HOLDS(out, 38, REPORT);
+    unwritten(__LINE__, out, 65);
+    out = buffer(64);
+    CALL(hibernaxo_write_radio, 0x1234, 0x5678, 7, message.bytes + 10, message.length - 10, out.bytes, out.length, values(HIBERNAXO_WRITE_RADIO_VALUES));
+    EXPECT(HIBERNAXO_ROOM, 65);
+    CALL(hibernaxo_write_radio, 0x1234, 0x5678, 7, message.bytes + 10, 0, out.bytes, out.length, values(HIBERNAXO_WRITE_RADIO_VALUES));
+    EXPECT(HIBERNAXO_RADIO, 0);
+    CALL(hibernaxo_write_radio, 0x1234, 0x5678, 7, message.bytes + 10, 18, out.bytes, out.length, values(HIBERNAXO_WRITE_RADIO_VALUES));
+    EXPECT(HIBERNAXO_RADIO, 27);
+    message = zeros(LARGEST - 9);
+    CALL(hibernaxo_write_radio, 0x1234, 0x5678, 7, message.bytes, message.length, out.bytes, out.length, values(HIBERNAXO_WRITE_RADIO_VALUES));
+    EXPECT(HIBERNAXO_LARGE, LARGEST);
+    KEPT(out);
+}
+
+/* The row of a link metric: what its readings are, and its doubles, every one of them exact. */
+static void row(int line, uint16_t frequency, int8_t rssi, int8_t cinr, uint8_t errors, const uint8_t *kinds, const double *doubles)
+{
+    struct lent got_kinds = buffer(HIBERNAXO_LINK_ROW_KINDS), got_doubles = buffer(8 * HIBERNAXO_LINK_ROW_VALUES);
+    called = "hibernaxo_link_row", number = HIBERNAXO_OK;
+    hibernaxo_link_row(frequency, rssi, cinr, errors, got_kinds.bytes, (double *)(void *)got_doubles.bytes);
+    guards_stand(line);
+    if (memcmp(got_kinds.bytes, kinds, HIBERNAXO_LINK_ROW_KINDS) != 0)
+        fail(line, "other kinds of readings");
+    if (memcmp(got_doubles.bytes, doubles, 8 * HIBERNAXO_LINK_ROW_VALUES) != 0)
+        fail(line, "other doubles");
+    count_answer();
+}
+
+static void link_rows(void)
+{
+    static const uint8_t all[] = {HIBERNAXO_READING_LEVEL, HIBERNAXO_READING_LEVEL, HIBERNAXO_READING_RATE};
+    static const uint8_t no_cinr[] = {HIBERNAXO_READING_LEVEL, HIBERNAXO_READING_MISSING, HIBERNAXO_READING_RATE};
+    static const uint8_t none[] = {HIBERNAXO_READING_MISSING, HIBERNAXO_READING_MISSING, HIBERNAXO_READING_MISSING};
+    static const double worked[] = {2250.25, -60.0, 0.0, 0.01171875}, largest[] = {16383.75, 127.0, -127.0, 0.99609375}, zero[] = {0.0, 0.0, 0.0, 0.0};
+    row(__LINE__, 9001, -60, -128, 3, no_cinr, worked);
+    row(__LINE__, 65535, 127, -127, 255, all, largest);
+    row(__LINE__, 0, -128, -128, 0, none, zero);
+}
+
 int main(void)
 {
-    static void (*const groups[])(void) = {headers, packages, checks, writing, cleaning, sheets, copies, steps, purging, cutting, joining, randomizing, bursts, reading_ids, writing_ids, salvages, reading_captures, writing_captures};
+    static void (*const groups[])(void) = {headers, packages, checks, writing, cleaning, sheets, copies, steps, purging, cutting, joining, randomizing, bursts, reading_ids, writing_ids, salvages, reading_captures, writing_captures, reading_radio, radio_steps, putting_radio, writing_radio, link_rows};
     signal(SIGSEGV, touched);
     signal(SIGBUS, touched);
     for (size_t k = 0; k < sizeof groups / sizeof *groups; k++) {
@@ -1010,7 +1189,7 @@ int main(void)
         give_back();
     }
     for (const struct tally *tally = tallies; tally->name != NULL; tally++)
-        if (tally->good > 0 && tally->refused > 0)
+        if (tally->good > 0 && (tally->refused > 0 || strcmp(tally->name, "hibernaxo_link_row") == 0))
             puts(tally->name);
     return 0;
 }

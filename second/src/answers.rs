@@ -3,6 +3,7 @@
 
 use crate::copy::Copied;
 use crate::ids::{self, IdRange, MOST_RANGES};
+use crate::radio::{self, LinkMetric, Measured, MOST_FIELDS};
 use crate::refusal::Refusal;
 use crate::render::Draft;
 use crate::steps::{self, Running, State, MOST_IDS};
@@ -265,4 +266,69 @@ pub fn join(fragments: &[u8], out: &mut [u8]) -> Answer<2> {
         Ok(bytes) => Answer::success(&[bytes]),
         Err(refusal) => Answer::refused(refusal),
     }
+}
+
+pub fn read_radio(bytes: &[u8]) -> Answer<5> {
+    match radio::read_radio(bytes) {
+        Ok(message) => Answer::success(&[
+            message.destination.into(),
+            message.source.into(),
+            message.sequence as usize,
+            message.tlvs.len(),
+        ]),
+        Err(refusal) => Answer::refused(refusal),
+    }
+}
+
+pub fn radio_tlv(message: &[u8], at: usize) -> Answer<14> {
+    match radio::tlv_step(message, at) {
+        Ok(Some(tlv)) => {
+            let mut told = vec![tlv.kind().into(), at + tlv.length()];
+            told.extend(tlv.told().iter().map(|field| *field as usize));
+            Answer::success(&told)
+        }
+        Ok(None) => Answer::success(&[0, at]),
+        Err(refusal) => {
+            // As with every walk, the place comes back as it was handed in.
+            let mut answer = Answer::refused(refusal);
+            answer.values[2] = at as u64;
+            answer
+        }
+    }
+}
+
+pub fn put_radio_tlv(
+    kind: u32,
+    fields: &[u64; MOST_FIELDS],
+    out: &mut [u8],
+    at: usize,
+) -> Answer<2> {
+    match radio::put_tlv(kind, fields, out, at) {
+        Ok(bytes) => Answer::success(&[bytes]),
+        Err(refusal) => Answer::refused(refusal),
+    }
+}
+
+pub fn write_radio(header: (u16, u16, u32), run: &[u8], out: &mut [u8]) -> Answer<2> {
+    match radio::write_run(header, run, out) {
+        Ok(bytes) => Answer::success(&[bytes]),
+        Err(refusal) => Answer::refused(refusal),
+    }
+}
+
+/// The row of a link metric; there is no place. The values are the bits of its four
+/// doubles, then what RSSI, CINR and error rate are.
+pub fn link_row(frequency: u16, rssi: i8, cinr: i8, error_rate: u8) -> Answer<7> {
+    let metric = LinkMetric { seconds: 0, microseconds: 0, frequency, rssi, cinr, error_rate };
+    let row = radio::plot_row(&metric);
+    let mut values = [0; 7];
+    values[0] = row.megahertz.to_bits();
+    for (index, measured) in [row.rssi, row.cinr, row.error_rate].into_iter().enumerate() {
+        (values[4 + index], values[1 + index]) = match measured {
+            Measured::Missing => (0, 0.0_f64.to_bits()),
+            Measured::Level(level) => (1, level.to_bits()),
+            Measured::Rate(rate) => (2, rate.to_bits()),
+        };
+    }
+    Answer { number: 0, values }
 }

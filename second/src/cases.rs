@@ -2,6 +2,7 @@
 
 mod captures;
 mod fragments;
+mod radios;
 mod salvages;
 
 use crate::burst::{CODEBLOCK_BYTES, MARKER_BYTES};
@@ -45,7 +46,7 @@ const KINDS: [(u64, Case); 15] = [
 ];
 
 /// What is tried beside these cases: one case beside each so many of them.
-const BESIDE: [(u64, Case); 15] = [
+const BESIDE: [(u64, Case); 17] = [
     (7, pair_case),
     (8, purge_case),
     (12, purging_case),
@@ -61,6 +62,8 @@ const BESIDE: [(u64, Case); 15] = [
     (14, captures::capturing),
     (6, fragments::fragments),
     (10, fragments::fragmenting),
+    (6, radios::radio),
+    (9, radios::radio_trips),
 ];
 
 /// Runs the case with this number, and what is tried beside it.

@@ -6,6 +6,7 @@
 //! words that are lent.
 
 use crate::answers::{Answer, Given};
+use crate::radio::MOST_FIELDS;
 use crate::render::Draft;
 
 /// The functions as the library hands them out.
@@ -118,6 +119,39 @@ pub mod raw {
             out_len: usize,
             values: *mut u64,
         ) -> u32;
+        pub fn hibernaxo_read_radio(bytes: *const u8, len: usize, values: *mut u64) -> u32;
+        pub fn hibernaxo_radio_tlv(
+            bytes: *const u8,
+            len: usize,
+            at: usize,
+            values: *mut u64,
+        ) -> u32;
+        pub fn hibernaxo_put_radio_tlv(
+            kind: u32,
+            fields: *const u64,
+            out: *mut u8,
+            out_len: usize,
+            at: usize,
+            values: *mut u64,
+        ) -> u32;
+        pub fn hibernaxo_write_radio(
+            destination: u16,
+            source: u16,
+            sequence: u32,
+            run: *const u8,
+            run_len: usize,
+            out: *mut u8,
+            out_len: usize,
+            values: *mut u64,
+        ) -> u32;
+        pub fn hibernaxo_link_row(
+            frequency: u16,
+            rssi: i8,
+            cinr: i8,
+            errors: u8,
+            kinds: *mut u8,
+            values: *mut f64,
+        );
     }
 }
 
@@ -352,4 +386,68 @@ pub fn join(fragments: &mut [u8], out: &mut [u8]) -> Given<2> {
             values,
         )
     })
+}
+
+pub fn read_radio(bytes: &mut [u8]) -> Given<5> {
+    call(|values| unsafe { raw::hibernaxo_read_radio(bytes.as_mut_ptr(), bytes.len(), values) })
+}
+
+pub fn radio_tlv(message: &mut [u8], at: usize) -> Given<14> {
+    call(|values| unsafe {
+        raw::hibernaxo_radio_tlv(message.as_mut_ptr(), message.len(), at, values)
+    })
+}
+
+/// The fields stand between two words, and all of them must stay.
+pub fn put_radio_tlv(
+    kind: u32,
+    fields: &[u64; MOST_FIELDS],
+    out: &mut [u8],
+    at: usize,
+) -> Given<2> {
+    let mut lent = [JUNK; MOST_FIELDS + 2];
+    lent[1..=MOST_FIELDS].copy_from_slice(fields);
+    let before = lent;
+    let first = lent.as_mut_ptr().wrapping_add(1);
+    let mut given = call(|values| unsafe {
+        raw::hibernaxo_put_radio_tlv(kind, first, out.as_mut_ptr(), out.len(), at, values)
+    });
+    given.strayed |= lent != before;
+    given
+}
+
+pub fn write_radio(
+    (destination, source, sequence): (u16, u16, u32),
+    run: &mut [u8],
+    out: &mut [u8],
+) -> Given<2> {
+    call(|values| unsafe {
+        raw::hibernaxo_write_radio(
+            destination,
+            source,
+            sequence,
+            run.as_mut_ptr(),
+            run.len(),
+            out.as_mut_ptr(),
+            out.len(),
+            values,
+        )
+    })
+}
+
+/// The doubles are handed out as their bits; behind them stands what the readings are.
+pub fn link_row(frequency: u16, rssi: i8, cinr: i8, errors: u8) -> Given<7> {
+    let junk = JUNK as u8;
+    let mut kinds = [junk; 5];
+    let first = kinds.as_mut_ptr().wrapping_add(1);
+    let row: Given<4> = call(|values| {
+        let doubles = values.cast::<f64>();
+        unsafe { raw::hibernaxo_link_row(frequency, rssi, cinr, errors, first, doubles) };
+        0
+    });
+    let mut values = [0; 7];
+    values[..4].copy_from_slice(&row.answer.values);
+    values[4..].copy_from_slice(&[kinds[1], kinds[2], kinds[3]].map(u64::from));
+    let strayed = row.strayed || kinds[0] != junk || kinds[4] != junk;
+    Given { answer: Answer { number: 0, values }, strayed }
 }

@@ -6,7 +6,7 @@ use crate::refusal::{NAMES, NUMBERS};
 use std::fmt::Write;
 
 /// The exports, and the refusal numbers that each of them can give.
-pub const EXPORTS: [(&str, &[u32]); 19] = [
+pub const EXPORTS: [(&str, &[u32]); 24] = [
     ("header", &[1, 2, 3, 4, 5, 6, 7, 12]),
     ("package", &[10, 12]),
     ("check", &[1, 2, 3, 4, 5, 6, 7, 8, 9, 10, 12, 17]),
@@ -26,6 +26,11 @@ pub const EXPORTS: [(&str, &[u32]); 19] = [
     ("write_capture", &[1, 2, 3, 4, 5, 6, 7, 8, 9, 10, 12, 13, 17]),
     ("cut", &[1, 2, 3, 4, 5, 6, 7, 8, 9, 10, 12, 13, 17]),
     ("join", &[1, 2, 3, 4, 5, 6, 7, 9, 10, 12, 13, 17, 21]),
+    ("read_radio", &[12, 19]),
+    ("radio_tlv", &[12, 19]),
+    ("put_radio_tlv", &[12, 13, 19]),
+    ("write_radio", &[12, 13, 19]),
+    ("link_row", &[]),
 ];
 
 /// So many differences are printed; the others are only counted.

@@ -13,6 +13,7 @@ pub mod ids;
 pub mod paper;
 pub mod parse;
 pub mod purge;
+pub mod radio;
 pub mod refusal;
 pub mod render;
 pub mod salvage;
@@ -34,6 +35,7 @@ pub mod pieces;
 pub mod rests;
 pub mod runs;
 pub mod seams;
+pub mod tlvs;
 
 // The comparison with the library's exports.
 pub mod answers;
@@ -58,6 +60,8 @@ pub mod measuring;
 pub mod programs;
 #[cfg(feature = "exports")]
 pub mod purging;
+#[cfg(feature = "exports")]
+pub mod radio_trips;
 #[cfg(feature = "exports")]
 pub mod releases;
 #[cfg(feature = "exports")]

@@ -4,6 +4,7 @@
 mod captures;
 mod fragments;
 mod ids;
+mod radios;
 mod salvages;
 mod steps;
 
@@ -31,7 +32,7 @@ use crate::side_by_side;
 type Part = fn(&mut Limits);
 
 /// The parts in their order.
-const PARTS: [(&str, Part); 23] = [
+const PARTS: [(&str, Part); 24] = [
     ("the paper's numbers", paper_numbers),
     ("sizes", sizes),
     ("faults", faults),
@@ -53,6 +54,7 @@ const PARTS: [(&str, Part); 23] = [
     ("salvages", salvages::salvages),
     ("captures", captures::captures),
     ("fragments", fragments::fragments),
+    ("radio messages", radios::radios),
     ("demand 3", demand_3),
     ("round trips", round_trips),
 ];

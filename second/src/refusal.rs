@@ -19,6 +19,7 @@ pub const TEXT: u32 = 16;
 /// In the order of checks it stands directly after PACKAGE.
 pub const COUNT: u32 = 17;
 pub const CAPTURE: u32 = 18;
+pub const RADIO: u32 = 19;
 /// It stands first of all for a state, and before ROOM for a 65th id.
 pub const IDS: u32 = 20;
 /// In joining it stands in the place of FRAGMENT.
@@ -29,7 +30,7 @@ pub const HOLES: u32 = 22;
 pub const NUMBERS: usize = 23;
 
 /// The refusal numbers and their names.
-pub const NAMES: [(u32, &str); 21] = [
+pub const NAMES: [(u32, &str); 22] = [
     (SHORT, "SHORT"),
     (VERSION, "VERSION"),
     (TYPE, "TYPE"),
@@ -48,6 +49,7 @@ pub const NAMES: [(u32, &str); 21] = [
     (TEXT, "TEXT"),
     (COUNT, "COUNT"),
     (CAPTURE, "CAPTURE"),
+    (RADIO, "RADIO"),
     (IDS, "IDS"),
     (GAP, "GAP"),
     (HOLES, "HOLES"),

@@ -10,6 +10,7 @@ use crate::judge::Judge;
 use crate::lent::Lent;
 use crate::lines::Handed;
 use crate::measuring;
+use crate::radio::MOST_FIELDS;
 use crate::render::Draft;
 
 // The exports' places in the judge's table.
@@ -32,6 +33,11 @@ const READ_CAPTURE: usize = 15;
 const WRITE_CAPTURE: usize = 16;
 const CUT: usize = 17;
 const JOIN: usize = 18;
+const READ_RADIO: usize = 19;
+const RADIO_TLV: usize = 20;
+const PUT_RADIO_TLV: usize = 21;
+const WRITE_RADIO: usize = 22;
+const LINK_ROW: usize = 23;
 
 pub fn header(judge: &mut Judge, dice: &mut Dice, bytes: &[u8]) -> Answer<10> {
     let mut input = Lent::new(dice, bytes);
@@ -318,6 +324,115 @@ pub fn join(
     let buffers = [("fragments", &input), ("out", &out)];
     judge.settle(JOIN, &[], expected, given, &buffers);
     (given.answer, out.content().to_vec())
+}
+
+pub fn read_radio(judge: &mut Judge, dice: &mut Dice, bytes: &[u8]) -> Answer<5> {
+    let mut input = Lent::new(dice, bytes);
+    let given = exports::read_radio(input.lend());
+    let expected = answers::read_radio(bytes);
+    judge.settle(READ_RADIO, &[], expected, given, &[("message", &input)]);
+    given.answer
+}
+
+/// One step over the TLVs of a message.
+pub fn radio_tlv(judge: &mut Judge, dice: &mut Dice, message: &[u8], at: usize) -> Answer<14> {
+    let mut input = Lent::new(dice, message);
+    let given = exports::radio_tlv(input.lend(), at);
+    let expected = answers::radio_tlv(message, at);
+    judge.settle(RADIO_TLV, &[("at", at as u64)], expected, given, &[("message", &input)]);
+    given.answer
+}
+
+/// Steps over the TLVs of a message from this place on, following the places that the
+/// export gives. What comes back are the types and fields of the TLVs shown, and where
+/// the last step was.
+pub fn radio_walk(
+    judge: &mut Judge,
+    dice: &mut Dice,
+    message: &[u8],
+    start: usize,
+) -> (Vec<Shown>, usize) {
+    let mut input = Lent::new(dice, message);
+    let (mut shown, mut at) = (Vec::new(), start);
+    // A message has no more TLVs than this, so a walk that hangs is caught.
+    for _ in 0..=message.len() / 4 {
+        let given = exports::radio_tlv(input.lend(), at);
+        let expected = answers::radio_tlv(message, at);
+        let message_part = [("message", &input)];
+        let buffers = if expected == given.answer { &[][..] } else { &message_part };
+        judge.settle(RADIO_TLV, &[("at", at as u64)], expected, given, buffers);
+        let [_, kind, next, fields @ ..] = given.answer.values;
+        if given.answer.number != 0 || kind == 0 {
+            break;
+        }
+        shown.push((kind as u32, fields));
+        at = next as usize;
+    }
+    judge.untouched("message", &input);
+    (shown, at)
+}
+
+/// The type of a TLV and the fields that are told of it, zero behind the last.
+pub type Shown = (u32, [u64; MOST_FIELDS]);
+
+/// Puts a TLV at this place of a buffer with these bytes.
+pub fn put_radio_tlv(
+    judge: &mut Judge,
+    dice: &mut Dice,
+    (kind, fields): &Shown,
+    at: usize,
+    buffer: &[u8],
+) -> (Answer<2>, Vec<u8>) {
+    let mut out = Lent::new(dice, buffer);
+    let given = exports::put_radio_tlv(*kind, fields, out.lend(), at);
+    let expected = answers::put_radio_tlv(*kind, fields, out.expected(), at);
+    let mut numbers = vec![("at", at as u64), ("type", (*kind).into())];
+    numbers.extend(fields.map(|field| ("field", field)));
+    judge.settle(PUT_RADIO_TLV, &numbers, expected, given, &[("out", &out)]);
+    (given.answer, out.content().to_vec())
+}
+
+/// Writes a message with this destination, source and sequence number from a run of TLVs
+/// into a buffer of so many bytes.
+pub fn write_radio(
+    judge: &mut Judge,
+    dice: &mut Dice,
+    header: (u16, u16, u32),
+    run: &[u8],
+    room: usize,
+) -> (Answer<2>, Vec<u8>) {
+    let mut input = Lent::new(dice, run);
+    let mut out = Lent::buffer(dice, room);
+    let given = exports::write_radio(header, input.lend(), out.lend());
+    let expected = answers::write_radio(header, run, out.expected());
+    let numbers = [
+        ("destination", header.0.into()),
+        ("source", header.1.into()),
+        ("sequence number", header.2.into()),
+    ];
+    judge.settle(WRITE_RADIO, &numbers, expected, given, &[("run", &input), ("out", &out)]);
+    (given.answer, out.content().to_vec())
+}
+
+/// The row of a link metric. What comes back are its doubles, and what the readings are.
+pub fn link_row(
+    judge: &mut Judge,
+    frequency: u16,
+    rssi: i8,
+    cinr: i8,
+    errors: u8,
+) -> ([f64; 4], [u64; 3]) {
+    let given = exports::link_row(frequency, rssi, cinr, errors);
+    let expected = answers::link_row(frequency, rssi, cinr, errors);
+    let numbers = [
+        ("frequency", frequency.into()),
+        ("RSSI as its byte", (rssi as u8).into()),
+        ("CINR as its byte", (cinr as u8).into()),
+        ("error rate", errors.into()),
+    ];
+    judge.settle(LINK_ROW, &numbers, expected, given, &[]);
+    let [megahertz, rssi, cinr, rate, kinds @ ..] = given.answer.values;
+    ([megahertz, rssi, cinr, rate].map(f64::from_bits), kinds)
 }
 
 /// Walks over the packages of a run from this place on, following the places

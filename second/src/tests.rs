@@ -6,6 +6,7 @@ mod changed_rules;
 mod fragments;
 mod ids;
 mod purge;
+mod radio;
 mod salvage;
 mod steps;
 mod two_sheets;

@@ -5,3 +5,4 @@ pub mod Rows
 pub mod Ids
 pub mod States
 pub mod Stretches
+pub mod Within

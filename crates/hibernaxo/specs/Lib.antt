@@ -1,2 +1,3 @@
 -- What each export hands back.
 pub mod Told
+pub mod Radio

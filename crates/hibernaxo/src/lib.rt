@@ -15,7 +15,17 @@ use message::HeaderRead;
 use message::Mdid;
 use message::PackageRead;
 use numbered::Answer as Reply;
+use radio::Head;
+use radio::Heartbeat;
+use radio::LinkMetric;
+use radio::QueueReport;
+use radio::RadioRead;
+use radio::Reading;
+use radio::Tlv;
+use radio::TlvRead;
+use radio::TxOp;
 use refusal::Refusal;
+use refusal::Why;
 use release::Answer;
 use salvage::SalvageAnswer;
 use salvage::Salvaged;
@@ -42,7 +52,7 @@ ghost use Rattle.fragments.specs.Joining.{joiner};
 ghost use Rattle.fragments.specs.Told.{cutNumbers};
 ghost use Rattle.refusal.specs.Numbers.{numberOf};
 ghost use Rattle.sheet.specs.Rows.{rowIn};
-ghost use Rattle.compose.specs.Told.{numbers};
+ghost use Rattle.compose.specs.Told.{numbers, told};
 ghost use Rattle.release.specs.Told as release;
 ghost use Rattle.numbered.specs.Told.{report};
 ghost use Rattle.step.specs.Step as rule;
@@ -55,6 +65,9 @@ ghost use Rattle.salvage.specs.Told as salvaged;
 ghost use Rattle.capture.specs.Reading.{readCapture};
 ghost use Rattle.capture.specs.Writing.{writeCapture};
 ghost use Rattle.capture.specs.Told.{numbersRead, numbersWritten};
+ghost use Rattle.radio.specs.Radio.{radioRead, tlvAt, radioWriter};
+ghost use Rattle.radio.specs.Row.{linkRow};
+ghost use Rattle.hibernaxo.specs.Radio as radios;
 ghost use Rattle.hibernaxo.specs.Told.{headerTold, stepTold, checkTold, draft, writtenValues, writtenTold, rowValues, sheetTold, answerValues, copyTold, numbersFrom, stateAt, stateValues, reportValues, steppedTold, randomizedTold, openedTold, rangeValues, idsTold, rangesIn, stretchValues, salvageValues, salvageTold, readValues, readTold, sentValues, sentTold, cutValues, cutTold};
 
 // The number of a refusal.
@@ -666,4 +679,376 @@ pub extern "C" fn hibernaxo_write_capture(
 {
     let a = capture::write_capture(recording, port, out);
     put_sent(a, values)
+}
+
+// A radio message: destination, source, sequence number, and how many TLVs it has.
+#[no_mangle]
+pub extern "C" fn hibernaxo_read_radio(bytes: &[u8], values: &mut [u64; 5]) -> u32
+    ensures { λ r. ⌜ (r, now (values .exit)) ≡ radios.radioTold (radioRead (now (bytes .entry))) ⌝ }
+{
+    match radio::read(bytes) {
+        RadioRead::Message { head, tlvs } => {
+            *values = [
+                0,
+                head.destination as u64,
+                head.source as u64,
+                head.sequence as u64,
+                tlvs as u64,
+            ];
+            0
+        }
+        RadioRead::Refused(x) => {
+            *values = [x.place as u64, 0, 0, 0, 0];
+            number_in(x)
+        }
+    }
+}
+
+// The values of a TLV of each type, with the place behind it.
+fn opportunity_values(t: TxOp, next: u64) -> [u64; 14]
+    ensures { λ r. ⌜ r ≡ radios.opportunityValues t next ⌝ }
+{
+    [
+        0,
+        1,
+        next,
+        t.frequency as u64,
+        t.id as u64,
+        t.timeout as u64,
+        t.start as u64,
+        t.stop as u64,
+        0,
+        0,
+        0,
+        0,
+        0,
+        0,
+    ]
+}
+
+fn heartbeat_values(t: Heartbeat, next: u64) -> [u64; 14]
+    ensures { λ r. ⌜ r ≡ radios.heartbeatValues t next ⌝ }
+{
+    [0, 5, next, t.timeout as u64, 0, 0, 0, 0, 0, 0, 0, 0, 0, 0]
+}
+
+fn metric_values(t: LinkMetric, next: u64) -> [u64; 14]
+    ensures { λ r. ⌜ r ≡ radios.metricValues t next ⌝ }
+{
+    let rssi = radio::byte_of(t.rssi);
+    let cinr = radio::byte_of(t.cinr);
+    [
+        0,
+        6,
+        next,
+        t.seconds as u64,
+        t.micros as u64,
+        t.frequency as u64,
+        rssi as u64,
+        cinr as u64,
+        t.errors as u64,
+        0,
+        0,
+        0,
+        0,
+        0,
+    ]
+}
+
+fn report_values(t: QueueReport, next: u64) -> [u64; 14]
+    ensures { λ r. ⌜ r ≡ radios.reportValues t next ⌝ }
+{
+    [
+        0,
+        10,
+        next,
+        t.seconds as u64,
+        t.micros as u64,
+        t.mission as u64,
+        t.level0 as u64,
+        t.level1 as u64,
+        t.level2 as u64,
+        t.level3 as u64,
+        t.level4 as u64,
+        t.level5 as u64,
+        t.level6 as u64,
+        t.level7 as u64,
+    ]
+}
+
+fn tlv_values(t: Tlv, next: u64) -> [u64; 14]
+    ensures { λ r. ⌜ r ≡ radios.tlvValues t next ⌝ }
+{
+    match t {
+        Tlv::TxOp(x) => opportunity_values(x, next),
+        Tlv::Heartbeat(x) => heartbeat_values(x, next),
+        Tlv::LinkMetric(x) => metric_values(x, next),
+        Tlv::QueueReport(x) => report_values(x, next),
+    }
+}
+
+// A step over the TLVs of a radio message: a TLV's type, or 0 at the end, the next place, and its fields.
+#[no_mangle]
+pub extern "C" fn hibernaxo_radio_tlv(bytes: &[u8], at: usize, values: &mut [u64; 14]) -> u32
+    ensures { λ r. ⌜ (r, now (values .exit)) ≡ radios.tlvTold at (tlvAt (now (bytes .entry)) at) ⌝ }
+{
+    let place = at as u64;
+    match radio::tlv_at(bytes, at) {
+        TlvRead::Tlv { tlv, next } => {
+            *values = tlv_values(tlv, next as u64);
+            0
+        }
+        TlvRead::End => {
+            *values = [0, 0, place, 0, 0, 0, 0, 0, 0, 0, 0, 0, 0, 0];
+            0
+        }
+        TlvRead::Refused(x) => {
+            *values = [x.place as u64, 0, place, 0, 0, 0, 0, 0, 0, 0, 0, 0, 0, 0];
+            number_in(x)
+        }
+    }
+}
+
+// What a caller hands over as a TLV, if it is one.
+enum Handed {
+    Tlv(Tlv),
+    Nothing,
+}
+
+// No field is above its bound.
+fn all_within(fields: &[u64; 11], bounds: [u64; 11]) -> bool
+    ensures { λ r. ⌜ r ≡ radios.allWithin 11 0 (now (fields .entry)) bounds ⌝ }
+{
+    let mut i = 0;
+    while i < 11 {
+        if bounds[i] < fields[i] {
+            return false;
+        }
+        i += 1;
+    }
+    true
+}
+
+// A TLV of each type from its fields, if they fit their bits. Whatever stands behind them is not looked at.
+fn opportunity_in(fields: &[u64; 11]) -> Handed
+    ensures { λ r. ⌜ r ≡ radios.opportunityIn (now (fields .entry)) ⌝ }
+{
+    let any = 18446744073709551615;
+    let bounds = [
+        65535,
+        65535,
+        255,
+        4294967295,
+        4294967295,
+        any,
+        any,
+        any,
+        any,
+        any,
+        any,
+    ];
+    if !all_within(fields, bounds) {
+        return Handed::Nothing;
+    }
+    Handed::Tlv(Tlv::TxOp(TxOp {
+        frequency: fields[0] as u16,
+        id: fields[1] as u16,
+        timeout: fields[2] as u8,
+        start: fields[3] as u32,
+        stop: fields[4] as u32,
+    }))
+}
+
+fn heartbeat_in(fields: &[u64; 11]) -> Handed
+    ensures { λ r. ⌜ r ≡ radios.heartbeatIn (now (fields .entry)) ⌝ }
+{
+    let any = 18446744073709551615;
+    let bounds = [65535, any, any, any, any, any, any, any, any, any, any];
+    if !all_within(fields, bounds) {
+        return Handed::Nothing;
+    }
+    Handed::Tlv(Tlv::Heartbeat(Heartbeat {
+        timeout: fields[0] as u16,
+    }))
+}
+
+fn metric_in(fields: &[u64; 11]) -> Handed
+    ensures { λ r. ⌜ r ≡ radios.metricIn (now (fields .entry)) ⌝ }
+{
+    let any = 18446744073709551615;
+    let bounds = [
+        255,
+        4294967295,
+        65535,
+        255,
+        255,
+        255,
+        any,
+        any,
+        any,
+        any,
+        any,
+    ];
+    if !all_within(fields, bounds) {
+        return Handed::Nothing;
+    }
+    let rssi = radio::signed_of(fields[3] as u8);
+    let cinr = radio::signed_of(fields[4] as u8);
+    Handed::Tlv(Tlv::LinkMetric(LinkMetric {
+        seconds: fields[0] as u8,
+        micros: fields[1] as u32,
+        frequency: fields[2] as u16,
+        rssi,
+        cinr,
+        errors: fields[5] as u8,
+    }))
+}
+
+fn report_in(fields: &[u64; 11]) -> Handed
+    ensures { λ r. ⌜ r ≡ radios.reportIn (now (fields .entry)) ⌝ }
+{
+    let bounds = [
+        255,
+        4294967295,
+        4294967295,
+        65535,
+        65535,
+        65535,
+        65535,
+        65535,
+        65535,
+        65535,
+        65535,
+    ];
+    if !all_within(fields, bounds) {
+        return Handed::Nothing;
+    }
+    Handed::Tlv(Tlv::QueueReport(QueueReport {
+        seconds: fields[0] as u8,
+        micros: fields[1] as u32,
+        mission: fields[2] as u32,
+        level0: fields[3] as u16,
+        level1: fields[4] as u16,
+        level2: fields[5] as u16,
+        level3: fields[6] as u16,
+        level4: fields[7] as u16,
+        level5: fields[8] as u16,
+        level6: fields[9] as u16,
+        level7: fields[10] as u16,
+    }))
+}
+
+fn tlv_in(kind: u32, fields: &[u64; 11]) -> Handed
+    ensures { λ r. ⌜ r ≡ radios.handed kind (now (fields .entry)) ⌝ }
+{
+    if kind == 1 {
+        return opportunity_in(fields);
+    }
+    if kind == 5 {
+        return heartbeat_in(fields);
+    }
+    if kind == 6 {
+        return metric_in(fields);
+    }
+    if kind == 10 {
+        return report_in(fields);
+    }
+    Handed::Nothing
+}
+
+fn put_handed(t: Handed, out: &mut [u8], at: usize) -> Written
+    ensures { λ a. ⌜ told a (now (out .exit)) ≡ radios.handedPut t at (now (out .entry)) ⌝ }
+{
+    match t {
+        Handed::Tlv(x) => radio::put_tlv(x, out, at),
+        Handed::Nothing => Written::Refused(Refusal {
+            why: Why::Radio,
+            place: at,
+        }),
+    }
+}
+
+// A TLV put at a place of a buffer: bytes.
+#[no_mangle]
+pub extern "C" fn hibernaxo_put_radio_tlv(
+    kind: u32,
+    fields: &[u64; 11],
+    out: &mut [u8],
+    at: usize,
+    values: &mut [u64; 2],
+) -> u32
+    ensures { λ r. ⌜ (r, now (values .exit), now (out .exit)) ≡ writtenTold (radios.handedPut (radios.handed kind (now (fields .entry))) at (now (out .entry))) ⌝ }
+{
+    let t = tlv_in(kind, fields);
+    let a = put_handed(t, out, at);
+    put_written(a, values)
+}
+
+// A radio message written from its header's numbers and a run of TLVs: bytes.
+#[no_mangle]
+pub extern "C" fn hibernaxo_write_radio(
+    destination: u16,
+    source: u16,
+    sequence: u32,
+    run: &[u8],
+    out: &mut [u8],
+    values: &mut [u64; 2],
+) -> u32
+    ensures { λ r. ⌜ (r, now (values .exit), now (out .exit)) ≡ writtenTold (radioWriter (record { destination = destination; source = source; sequence = sequence }) (now (run .entry)) (now (out .entry))) ⌝ }
+{
+    let head = Head {
+        destination,
+        source,
+        sequence,
+    };
+    let a = radio::write(head, run, out);
+    put_written(a, values)
+}
+
+// What a reading is, and its double, which is 0 where it is missing.
+fn kind_of(r: Reading) -> u8
+    ensures { λ k. ⌜ k ≡ radios.kindOf r ⌝ }
+{
+    match r {
+        Reading::Missing => 0,
+        Reading::Level(_) => 1,
+        Reading::Rate(_) => 2,
+    }
+}
+
+fn value_of(r: Reading) -> f64
+    ensures { λ x. ⌜ x ≡ radios.valueOf r ⌝ }
+{
+    match r {
+        Reading::Missing => 0.0,
+        Reading::Level(x) => x,
+        Reading::Rate(x) => x,
+    }
+}
+
+// The row of a link metric: what each of its readings is, and its doubles.
+#[no_mangle]
+pub extern "C" fn hibernaxo_link_row(
+    frequency: u16,
+    rssi: i8,
+    cinr: i8,
+    errors: u8,
+    kinds: &mut [u8; 3],
+    values: &mut [f64; 4],
+)
+    ensures { λ _. ⌜ (now (kinds .exit), now (values .exit)) ≡ radios.rowTold (linkRow (record { seconds = 0; micros = 0; frequency = frequency; rssi = rssi; cinr = cinr; errors = errors })) ⌝ }
+{
+    let row = radio::row_of(LinkMetric {
+        seconds: 0,
+        micros: 0,
+        frequency,
+        rssi,
+        cinr,
+        errors,
+    });
+    let a = row.rssi;
+    let b = row.cinr;
+    let c = row.errors;
+    *kinds = [kind_of(a), kind_of(b), kind_of(c)];
+    *values = [row.frequency, value_of(a), value_of(b), value_of(c)];
 }

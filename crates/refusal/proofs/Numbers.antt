@@ -8,12 +8,12 @@ use Rattle.rules.specs.Outcome.{Outcome, bad}
 use Rattle.rules.specs.Claims.{TellsApart}
 use Rattle.refusal.specs.Numbers.{numberOf, refused}
 use Rattle.refusal.specs.declared.Why.{Why}
-use Rattle.refusal.specs.declared.Why.the-variants.{Short, Version, Kind, Length, Cut, Time, Option, Fragment, Standard, Package, Row, Large, Room, Marker, Blocks, Text, Count, Capture, Ids, Gap, Holes}
+use Rattle.refusal.specs.declared.Why.the-variants.{Short, Version, Kind, Length, Cut, Time, Option, Fragment, Standard, Package, Row, Large, Room, Marker, Blocks, Text, Count, Capture, Radio, Ids, Gap, Holes}
 use Rattle.refusal.specs.declared.Refusal.{Refusal}
 
 -- the case that has a number: the table's cases by their numbers, the first one where the table leaves a number out
 whyOf : ℕ → Why
-whyOf n = getD (Short ∷ Version ∷ Kind ∷ Length ∷ Cut ∷ Time ∷ Option ∷ Fragment ∷ Standard ∷ Package ∷ Row ∷ Large ∷ Room ∷ Marker ∷ Blocks ∷ Text ∷ Count ∷ Capture ∷ Short ∷ Ids ∷ Gap ∷ Holes ∷ []) (n - 1) Short
+whyOf n = getD (Short ∷ Version ∷ Kind ∷ Length ∷ Cut ∷ Time ∷ Option ∷ Fragment ∷ Standard ∷ Package ∷ Row ∷ Large ∷ Room ∷ Marker ∷ Blocks ∷ Text ∷ Count ∷ Capture ∷ Radio ∷ Ids ∷ Gap ∷ Holes ∷ []) (n - 1) Short
 
 back : (w : Why) → whyOf (numberOf w) ≡ w
 unfolding whyOf
@@ -35,6 +35,7 @@ back Blocks = refl
 back Text = refl
 back Count = refl
 back Capture = refl
+back Radio = refl
 back Ids = refl
 back Gap = refl
 back Holes = refl
