@@ -28,10 +28,6 @@ unfoldable pub payloadOf : Outcome (List (List ℕ)) → List ℕ
 payloadOf (good cs) = piecesWritten cs
 payloadOf (bad n p) = []
 
--- the 12 bytes of the header of a piece's package with n bytes of data
-abbrev pub frontOf : List ℕ → ℕ → List ℕ
-frontOf c n = put32 (word c 0) (put16 (12 + n) (0 ∷ at c 7 ∷ put32 (word c 8) []))
-
 -- the package at index i of a run is stored at index i of a buffer, and the next one begins at index e
 pub record Moved (buffer run : List ℕ) (i : ℕ) (after : List ℕ) (e : ℕ) : Type 0 where
   pub end : i + pad (half (drop i run) 4) ≡ e

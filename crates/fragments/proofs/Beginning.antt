@@ -15,6 +15,7 @@ use Rattle.rules.specs.Packages.{cut, Piece}
 use Rattle.rules.specs.Clean.{cleanPiece}
 use Rattle.rules.proofs.Cut as Cut
 use Rattle.rules.proofs.Pieces.{length-padded}
+use Rattle.rules.proofs.Loops.{drop-sets}
 use Rattle.compose.specs.declared.Record.{Record}
 use Rattle.compose.specs.Payload.{Cuts}
 use Rattle.compose.proofs.Stores.{sets-part}
@@ -22,7 +23,7 @@ use Rattle.fragments.specs.Fragment.{FIRST, Fragment, offsetOption, frag
 use Rattle.fragments.specs.Cutting.{fragmentWith, laterFragments, fragmentsWith, payloadParts}
 use Rattle.fragments.specs.Stored.{cleanedOf, fragmentBy, numbered, wholeBy, bitsAt, Cuttable, fragmentsBy, fragmentsSize, Distributing}
 use Rattle.fragments.proofs.Chunks.{chunks-of, chunks-count}
-use Rattle.fragments.proofs.Stores.{drop-sets, clean-length}
+use Rattle.fragments.proofs.Stores.{clean-length}
 use Rattle.fragments.proofs.Distributing.{chunk, chunk-length, chunk-is, turned, later-length, later-count, next-parts, parts-joined, whole-sets}
 
 -- ---- small ones

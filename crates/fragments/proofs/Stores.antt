@@ -17,7 +17,7 @@ use Rattle.rules.proofs.Outcomes.{pass}
 use Rattle.rules.proofs.Cut as Cut
 use Rattle.rules.proofs.Pieces.{length-padded}
 use Rattle.rules.proofs.Growing.{join-append, map-append}
-use Rattle.rules.proofs.Loops.{Doing, doing-start, doing-next, doing-end, sets-sets}
+use Rattle.rules.proofs.Loops.{Doing, doing-start, doing-next, doing-end, sets-sets, drop-sets}
 use Rattle.wire.proofs.Stores.{part-more}
 use Rattle.compose.specs.declared.Record.{Record}
 use Rattle.compose.specs.Payload.{Cuts, headerOf, flagsWith, headerBy}
@@ -26,11 +26,6 @@ use Rattle.fragments.specs.Fragment.{offsetOption, fragmentBytes}
 use Rattle.fragments.specs.Stored.{CleanedAt, cleanedOf, fragmentBy}
 
 -- ---- stores
-
--- what stands behind the stores stays
-pub drop-sets : (xs b : List ℕ) (i k : ℕ) → i + length xs ≤ k → drop k (sets b i xs) ≡ drop k b
-drop-sets [] b i k h = refl
-drop-sets (x ∷ xs) b i k h = drop-sets xs (set b i x) (suc i) k (omega arith) ∙ drop-set-lt k b i x (omega arith)
 
 pub at-sets : (xs b : List ℕ) (i k : ℕ) → i + length xs ≤ k → at (sets b i xs) k ≡ at b k
 at-sets xs b i k h =

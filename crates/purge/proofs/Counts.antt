@@ -20,9 +20,9 @@ use Rattle.rules.proofs.Numbers.{bytes-nil, bytes-cons, bytes-head, bytes-tail,
 use Rattle.rules.proofs.Counts.{none≢some, said-here, said-next}
 use Rattle.rules.proofs.Run.{run-go, Going, run-inv, Bounds, bounds, Same, same}
 use Rattle.purge.specs.Purge.{packageCount, behindKind, countSet}
-use Rattle.rules.proofs.Loops.{running}
+use Rattle.rules.proofs.Loops.{running, drop-sets}
 use Rattle.purge.specs.Parts.{countAt}
-use Rattle.purge.proofs.Stores.{take-more, drop-sets}
+use Rattle.purge.proofs.Stores.{take-more}
 use Rattle.purge.specs.Claims.{CountsSet, none, counted, other}
 
 -- a run stays as long as it is

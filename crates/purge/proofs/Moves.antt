@@ -9,11 +9,11 @@ use lib.Seq.{sets, sets-eq, length-sets, set-set, drop-cons, take-add, take-take
 use Rattle.rules.specs.Bytes.{part}
 use Rattle.rules.specs.Packages.{packageLength}
 use Rattle.rules.specs.Clean.{cleanPiece}
-use Rattle.rules.proofs.Loops.{sets-sets}
+use Rattle.rules.proofs.Loops.{sets-sets, drop-sets}
 use Rattle.numbered.proofs.Stores.{sets-before}
 use Rattle.message.specs.declared.Package.{Package}
 use Rattle.purge.specs.Parts.{Standing}
-use Rattle.purge.proofs.Stores.{drop-sets, drop-take, part-back}
+use Rattle.purge.proofs.Stores.{drop-take, part-back}
 
 pub part-long : (s : List ℕ) (a n : ℕ) → a + n ≤ length s → length (part a (a + n) s) ≡ n
 part-long s a n h =

@@ -25,6 +25,7 @@ use Rattle.rules.proofs.Pieces.{length-padded}
 use Rattle.rules.proofs.Run.{run-ends}
 use Rattle.rules.proofs.Passed.{Passed, passes}
 use Rattle.rules.proofs.Valids.{valid, run-length}
+use Rattle.rules.proofs.Loops.{drop-sets}
 use Rattle.message.specs.declared.Header.{Header}
 use Rattle.message.specs.declared.Message.{Message}
 use Rattle.message.specs.Answers.{spotOfMessage}
@@ -37,7 +38,7 @@ use Rattle.purge.specs.Purge.{keptPackages, countSet, withPackages, lose
 use Rattle.purge.specs.Parts.{keptPieces, Slid, Headed, headed, losesBy, KeptAt}
 use Rattle.purge.proofs.Counts.{length-set}
 use Rattle.purge.proofs.Keeping.{kept-by, records-one, stays-record, goes-record}
-use Rattle.purge.proofs.Stores.{drop-sets, take-more, drop-take}
+use Rattle.purge.proofs.Stores.{take-more, drop-take}
 
 -- ---- what was read
 

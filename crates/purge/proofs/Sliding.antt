@@ -21,7 +21,7 @@ use Rattle.rules.proofs.Outcomes.{good-inj, good≢bad}
 use Rattle.rules.proofs.Numbers.{bytes-take, bytes-drop}
 use Rattle.rules.proofs.Cleaned.{piece-clean}
 use Rattle.rules.proofs.Growing.{join-append, map-append}
-use Rattle.rules.proofs.Loops.{Passing, passing-start, passing-next, passing-end, passing-bad}
+use Rattle.rules.proofs.Loops.{Passing, passing-start, passing-next, passing-end, passing-bad, drop-sets}
 use Rattle.refusal.specs.Numbers.{numberOf}
 use Rattle.message.specs.declared.Header.{Header}
 use Rattle.message.specs.declared.Package.{Package}
@@ -37,7 +37,7 @@ use Rattle.purge.specs.declared.Left.{Left}
 use Rattle.purge.specs.Purge.{keptPackages}
 use Rattle.purge.specs.Parts.{keptPieces, Standing, KeptUnless, Slid}
 use Rattle.purge.proofs.Keeping.{kept-append, kept-taken, kept-stays}
-use Rattle.purge.proofs.Stores.{drop-sets, take-more}
+use Rattle.purge.proofs.Stores.{take-more}
 
 -- one piece more: granted, or kept
 module _ (rs : List rows.Row) (m : Message) (cs : List (List ℕ)) (c : List ℕ) where

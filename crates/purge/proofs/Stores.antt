@@ -9,11 +9,6 @@ use lib.Seq.{sets, sets-eq, take-append-seam, drop-set-lt, drop-drop, length-tak
 use Rattle.rules.specs.Bytes.{pad, padded, part}
 use Rattle.rules.proofs.Loops.{sets-sets}
 
--- what stands behind a run of stores is what it was
-pub drop-sets : (xs b : List ℕ) (i j : ℕ) → i + length xs ≤ j → drop j (sets b i xs) ≡ drop j b
-drop-sets [] b i j h = refl
-drop-sets (x ∷ xs) b i j h = drop-sets xs (set b i x) (suc i) j (omega arith) ∙ drop-set-lt j b i x (omega arith)
-
 -- what stands before a run of stores, with the run behind it
 pub take-more : (xs b : List ℕ) (i : ℕ) → i + length xs ≤ length b → take (i + length xs) (sets b i xs) ≡ take i b ++ xs
 take-more xs b i h =
