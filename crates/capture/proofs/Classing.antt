@@ -7,7 +7,7 @@ use native.Mathlib.Nat.{zero-add}
 use native.Mathlib.Omega.{arith}
 use borrow.Author.Tests.{leb-true, eq-eqb, ne-eqb}
 use lib.Dec.{leb, eqb}
-use lib.ListN.{length, take, drop, length-drop}
+use lib.ListN.{length, take, drop, length-drop, length-take}
 use lib.Seq.{drop-drop}
 use Rattle.rules.specs.Outcome.{Outcome, good, bad}
 use Rattle.rules.specs.Bytes.{half, part}
@@ -16,6 +16,7 @@ use Rattle.rules.specs.Reading.{messageAt}
 use Rattle.rules.proofs.Outcomes.{both, good≢bad}
 use Rattle.rules.proofs.Spots.{of-record, spot-read}
 use Rattle.rules.proofs.Loops.{rest}
+use Rattle.rules.proofs.Alone.{message-inside}
 use Rattle.refusal.specs.declared.Refusal.{Refusal}
 use Rattle.message.specs.declared.Message.{Message}
 use Rattle.message.specs.declared.MessageRead.the-variants as M
@@ -23,6 +24,7 @@ use Rattle.message.specs.Answers.{toldMessage}
 use Rattle.capture.specs.Frame.{ipOf, ipHeader, forUs, lengthsFit, dataOf}
 use Rattle.capture.specs.Reading.{takes, oneMessage, kept, notForUs, cutShort, badMessage, classOf}
 use Rattle.capture.specs.Told.{packetBy}
+use Rattle.capture.proofs.Counting.{whole-one}
 
 -- ---- one message
 
@@ -44,17 +46,17 @@ module _ (s : List ℕ) where
 
 -- ---- what the tests leave known
 
-pub for-us-long : (port : ℕ) (frame : List ℕ) (b : Bool) → b ≡ forUs port frame → b ≡ true → 34 ≤ length frame
+pub for-us-long : (port : ℕ) (frame : List ℕ) (b : Bool) → b ≡ forUs port frame → b ≡ true → (34 ≤ length frame) × (20 ≤ ipHeader (ipOf frame))
 unfolding forUs
 for-us-long port frame b e t =
     let (x, _) = both _ _ (sym e ∙ t) in
     let (x, _) = both _ _ x in
     let (x, _) = both _ _ x in
     let (x, _) = both _ _ x in
+    let (x, h) = both _ _ x in
     let (x, _) = both _ _ x in
     let (x, _) = both _ _ x in
-    let (x, _) = both _ _ x in
-    leb-true 34 (length frame) x
+    (leb-true 34 (length frame) x, leb-true 20 (ipHeader (ipOf frame)) h)
 
 pub record Fitted (ip : List ℕ) (h u : ℕ) : Type 0 where
   pub least : h + 8 ≤ h + u
@@ -72,9 +74,19 @@ fitted ip b e t h eh u eu =
     let m = leb-true (half ip 2) (length ip) m in
     record { least = omega (arith, same, c); most = omega (arith, same, eh, d, m) }
 
--- where the data is in the frame
-pub inside : (frame : List ℕ) (h u : ℕ) → 34 ≤ length frame → Fitted (take (length frame - 14) (drop 14 frame)) h u → (14 + (h + 8) ≤ 14 + (h + u)) × (14 + (h + u) ≤ length frame)
-inside frame h u l f = (omega (arith, f .least), omega (arith, f .most, length-drop 14 frame, ap length (rest frame 14)))
+-- where the data is in the frame, if it is a message
+module _ (frame : List ℕ) (h u : ℕ) (l : (34 ≤ length frame) × (20 ≤ ipHeader (ipOf frame))) (f : Fitted (take (length frame - 14) (drop 14 frame)) h u) where
+  pub inside : h ≡ ipHeader (take (length frame - 14) (drop 14 frame)) → (r : Bool) → r ≡ oneMessage (part (h + 8) (h + u) (take (length frame - 14) (drop 14 frame))) → r ≡ true
+      → (42 ≤ 14 + (h + 8)) × (14 + (h + 8) + 24 ≤ 14 + (h + u)) × (14 + (h + u) ≤ length frame)
+  inside e r er hr =
+      let ip = take (length frame - 14) (drop 14 frame) in
+      let m = whole-one (part (h + 8) (h + u) ip) (sym er ∙ hr) in
+      let (least, _) = message-inside 0 (part (h + 8) (h + u) ip) (m .held) (length (part (h + 8) (h + u) ip)) (m .reads) in
+      let n = length-take (h + u - (h + 8)) (drop (h + 8) ip) in (
+        omega (arith, l .1, e, ap ipHeader (rest frame 14)),
+        omega (arith, least, n),
+        omega (arith, l .0, f .most, length-drop 14 frame, ap length (rest frame 14)),
+      )
 
 -- ---- the class
 

@@ -9,6 +9,7 @@ pub mod Only
 pub mod Turning
 pub mod Tests
 pub mod Classing
+pub mod Spotting
 pub mod Tallying
 pub mod Classes
 pub mod Answers

@@ -1,36 +1,30 @@
 -- The loop that counts: what it knows of the records before its place.
-use Prim.Native.Nat.{ℕ, _+_, _-_, _≤_, _<_}
-use mathlib.Core.Path.{_≡_, refl, ap, sym, _∙_}
+use Prim.Native.Nat.{ℕ, _+_, _-_, _*_, _≤_, _<_}
+use mathlib.Core.Path.{_≡_, refl, ap, sym, subst, _∙_}
 use mathlib.Core.Bool.{Bool, true, false, _&&_}
 use mathlib.Core.List.{List, [], _∷_, _++_, append-nil, append-assoc}
-use native.Mathlib.Nat.{add-zero, zero-add}
+use native.Mathlib.Nat.{add-zero}
 use native.Mathlib.Omega.{arith}
 use borrow.Author.Tests.{leb-true, leb-false, le-ltb, lt-ltb}
 use lib.Dec.{leb}
 use lib.ListN.{length, take, drop, length-append, length-drop, length-take}
-use lib.Seq.{sets, drop-drop, length-take-le}
+use lib.Seq.{drop-drop}
 use Rattle.rules.specs.Outcome.{good, bad}
 use Rattle.refusal.specs.Numbers.{CAPTURE}
 use Rattle.rules.specs.Bytes.{part, join}
 use Rattle.rules.specs.Items.{items}
 use Rattle.rules.proofs.Outcomes.{pass, halt, step, stop, both, good-inj, good≢bad}
-use Rattle.rules.proofs.Loops.{rest, sets-sets, Passing, passing-start, passing-next, passing-end, passing-bad}
+use Rattle.rules.proofs.Loops.{rest, Passing, passing-start, passing-next, passing-end, passing-bad}
 use Rattle.capture.specs.File.{Order, wordIn, Packet, packet}
 use Rattle.capture.specs.Reading.{Class, kept, notForUs, cutShort, badMessage, classOf, Taken, counted, takenOf, recordingOf}
 use Rattle.capture.specs.Claims.{joined}
-use Rattle.capture.specs.Told.{slotOf, packetBy, countsOf, withClass, Low, countedIn, bytesOf, Put, StoredIn}
+use Rattle.capture.specs.Told.{slotOf, packetBy, countsOf, withClass, Low, countedIn, Spots, More, SpotsIn}
 use Rattle.capture.specs.declared.Slot.the-variants.{Record, Cut}
 use Rattle.capture.specs.declared.Counts.{Counts}
 use Rattle.capture.proofs.Counting.{adds-up, in-order}
-use Rattle.capture.proofs.Recorded.{kept-length}
+use Rattle.capture.proofs.Spotting.{newOf, taken-last, more-small, more-long, spots-more}
 
 -- ---- one packet more
-
-pub kept-more : (frame : List ℕ) (t : Counts) (from to : ℕ) (c : Class) → kept (part from to frame) ≡ c → from ≤ to → to ≤ length frame
-    → record { bytes = t .bytes + (to - from); kept = t .kept + 1; «not_for_us» = t .«not_for_us»; «cut_short» = t .«cut_short»; «bad_message» = t .«bad_message» } ≡ withClass t c
-kept-more frame t from to c e l m =
-    let n : length (part from to frame) ≡ to - from = length-take-le (to - from) (drop from frame) (omega (arith, length-drop from frame)) in
-    rw (← e, n)
 
 join-append : (cs ds : List (List ℕ)) → length (join (cs ++ ds)) ≡ length (join cs) + length (join ds)
 join-append [] ds = omega arith
@@ -48,18 +42,6 @@ with-joined u badMessage = rw (append-nil, add-zero, add-zero)
 with-last : (port : ℕ) (done : List Packet) (k : Packet) → countsOf (takenOf port (done ++ (k ∷ []))) ≡ withClass (countsOf (takenOf port done)) (classOf port k)
 unfolding takenOf
 with-last port done k = ap countsOf (in-order port done (k ∷ [])) ∙ with-joined (takenOf port done) (classOf port k)
-
-with-small : (t : Counts) (c : Class) (n : ℕ) → ((d : List ℕ) → c ≡ kept d → length d ≤ n) → withClass t c .bytes ≤ t .bytes + n
-with-small t (kept d) n h = omega (arith, h d refl)
-with-small t notForUs n h = omega arith
-with-small t cutShort n h = omega arith
-with-small t badMessage n h = omega arith
-
-bytes-small : (c : Class) (n : ℕ) → ((d : List ℕ) → c ≡ kept d → length d ≤ n) → length (bytesOf c) ≤ n
-bytes-small (kept d) n h = h d refl
-bytes-small notForUs n h = omega arith
-bytes-small cutShort n h = omega arith
-bytes-small badMessage n h = omega arith
 
 -- the class does not depend on the time
 same-class : (port : ℕ) (frame : List ℕ) (original a b : ℕ) → classOf port (packetBy frame original) ≡ classOf port (record { seconds = a; micros = b; original = original; bytes = frame })
@@ -159,122 +141,74 @@ module _ (o : Order) (file : List ℕ) where
 
 -- ---- counted
 
-pub record Counting (o : Order) (port : ℕ) (file : List ℕ) (t : Counts) (at : ℕ) : Type 0 where
+pub record Counting (o : Order) (port : ℕ) (file : List ℕ) (t : Counts) (spots : List ℕ) (at : ℕ) : Type 0 where
   pub done : List Packet
   pub walk : Walked o file done at
   pub counts : t ≡ countsOf (takenOf port done)
   pub small : t .bytes ≤ at
+  pub few : 24 + t .kept * 82 ≤ at
+  pub long : length spots ≡ 800
+  pub spotted : Spots file spots (takenOf port done .messages)
 
 module _ (o : Order) (port : ℕ) (file : List ℕ) where
-  pub counting-start : 24 ≤ length file → Counting o port file (record { bytes = 0; kept = 0; «not_for_us» = 0; «cut_short» = 0; «bad_message» = 0 }) 24
+  pub counting-start : (spots : List ℕ) → length spots ≡ 800 → 24 ≤ length file → Counting o port file (record { bytes = 0; kept = 0; «not_for_us» = 0; «cut_short» = 0; «bad_message» = 0 }) spots 24
   unfolding takenOf recordingOf
-  counting-start l = record { done = []; walk = walked-start o file l; counts = refl; small = omega arith }
+  counting-start spots n l = record { done = []; walk = walked-start o file l; counts = refl; small = omega arith; few = omega arith; long = n; spotted = record { few = omega arith; each = λ i l. absurd (omega arith) } }
 
-  module _ (t : Counts) (at : ℕ) (inv : Counting o port file t at) where
-    pub low : length file ≤ 65536 → Low t
+  module _ (t : Counts) (spots : List ℕ) (at : ℕ) (inv : Counting o port file t spots at) where
+    pub low : length file ≤ 65536 → Low t × (t .kept < 800)
     low l =
         let i = inv .walk .inside in
         let f = inv .walk .few in
         let s = inv .small in
+        let k = inv .few in
         let a = adds-up port (inv .done) in
         let e = inv .counts in
-        record {
-          bytes = omega arith;
-          kept = rw e (omega (arith, a));
-          other = rw e (omega (arith, a));
-          short = rw e (omega (arith, a));
-          wrong = rw e (omega (arith, a));
-        }
+        let b : t .kept < 800 = omega arith in (
+          record {
+            bytes = omega arith;
+            kept = omega arith;
+            other = rw e (omega (arith, a));
+            short = rw e (omega (arith, a));
+            wrong = rw e (omega (arith, a));
+          },
+          b,
+        )
 
-    pub counting-end : length file ≤ at → good t ≡ countedIn o file port
+    pub counting-end : length file ≤ at → (good t ≡ countedIn o file port) × SpotsIn o file port spots
     unfolding countedIn
-    counting-end l = sym (step _ _ (walked-end o file (inv .done) at (inv .walk) l) (ap good (sym (inv .counts))))
+    counting-end l =
+        let e = walked-end o file (inv .done) at (inv .walk) l in
+        (sym (step _ _ e (ap good (sym (inv .counts)))), record { right = λ ks g. let q : inv .done ≡ ks = good-inj (sym e ∙ g) in rw (← q) (inv .spotted) })
 
     module _ (h : at < length file) where
-      pub counting-cut : Cut ≡ slotOf o (take (length file - at) (drop at file)) → bad CAPTURE at ≡ countedIn o file port
+      pub counting-cut : Cut ≡ slotOf o (take (length file - at) (drop at file)) → (bad CAPTURE at ≡ countedIn o file port) × SpotsIn o file port spots
       unfolding countedIn
-      counting-cut e = sym (stop _ _ (walked-cut o file (inv .done) at (inv .walk) h e))
+      counting-cut e =
+          let c = walked-cut o file (inv .done) at (inv .walk) h e in
+          (sym (stop _ _ c), record { right = λ ks g. absurd (good≢bad (sym c ∙ g)) })
 
       module _ (size original : ℕ) (e : Record size original ≡ slotOf o (take (length file - at) (drop at file))) where
-        pub counting-next : (t′ : Counts) → t′ ≡ withClass t (classOf port (packetBy (part (at + 16) (at + size) file) original)) → Counting o port file t′ (at + size)
-        counting-next t′ w =
+        pub counting-next : (t′ : Counts) (spots′ : List ℕ) → length file ≤ 65536 → More t t′ spots spots′ (at + 16) (part (at + 16) (at + size) file) (classOf port (packetBy (part (at + 16) (at + size) file) original))
+            → Counting o port file t′ spots′ (at + size)
+        counting-next t′ spots′ l m =
             let k = packetAt o (drop at file) size original in
-            let frame = part (at + 16) (at + size) file in
-            let short : length frame ≤ size - 16 = omega (arith, length-take (at + size - (at + 16)) (drop (at + 16) file)) in
-            let z = with-small t (classOf port (packetBy frame original)) (size - 16) (λ d q. omega (arith, kept-length port (packetBy frame original) d q, short)) in
-            record {
-              done = inv .done ++ (k ∷ []);
-              walk = walked-next o file (inv .done) at (inv .walk) h size original e;
-              counts = w ∙ ap (withClass t) (class-here o file (inv .done) at (inv .walk) h size original e port) ∙ ap (λ (x : Counts). withClass x (classOf port k)) (inv .counts) ∙ sym (with-last port (inv .done) k);
-              small = rw w (omega (arith, z, inv .small));
-            }
-
--- ---- stored
-
-join-last : (cs : List (List ℕ)) (c : List ℕ) → join (cs ++ (c ∷ [])) ≡ join cs ++ c
-join-last [] c = append-nil c
-join-last (d ∷ cs) c = rw (join-last cs c, append-assoc)
-
-recorded-joined : (u : Taken) (c : Class) → recordingOf (joined u (counted c (record { messages = []; notForUs = 0; cutShort = 0; badMessage = 0 }))) ≡ recordingOf u ++ bytesOf c
-unfolding counted recordingOf
-recorded-joined u (kept c) = join-last (u .messages) c
-recorded-joined u notForUs = rw (append-nil, append-nil)
-recorded-joined u cutShort = rw (append-nil, append-nil)
-recorded-joined u badMessage = rw (append-nil, append-nil)
-
-recorded-last : (port : ℕ) (done : List Packet) (k : Packet) → recordingOf (takenOf port (done ++ (k ∷ []))) ≡ recordingOf (takenOf port done) ++ bytesOf (classOf port k)
-unfolding takenOf
-recorded-last port done k = ap recordingOf (in-order port done (k ∷ [])) ∙ recorded-joined (takenOf port done) (classOf port k)
-
-pub record Storing (o : Order) (port : ℕ) (file before after : List ℕ) (to at : ℕ) : Type 0 where
-  pub done : List Packet
-  pub walk : Walked o file done at
-  pub end : to ≡ length (recordingOf (takenOf port done))
-  pub small : to ≤ at
-  pub stored : after ≡ sets before 0 (recordingOf (takenOf port done))
-
-module _ (o : Order) (port : ℕ) (file before : List ℕ) where
-  pub storing-start : 24 ≤ length file → Storing o port file before before 0 24
-  unfolding takenOf recordingOf
-  storing-start l = record { done = []; walk = walked-start o file l; end = refl; small = omega arith; stored = refl }
-
-  module _ (after : List ℕ) (to at : ℕ) (inv : Storing o port file before after to at) where
-    pub storing-end : length file ≤ at → StoredIn o file port before after
-    storing-end l = record { right = λ ks e. let q : inv .done ≡ ks = good-inj (sym (walked-end o file (inv .done) at (inv .walk) l) ∙ e) in rw (← q) (inv .stored) }
-
-    module _ (h : at < length file) where
-      pub storing-cut : Cut ≡ slotOf o (take (length file - at) (drop at file)) → StoredIn o file port before after
-      storing-cut e = record { right = λ ks g. absurd (good≢bad (sym (walked-cut o file (inv .done) at (inv .walk) h e) ∙ g)) }
-
-      module _ (size original : ℕ) (e : Record size original ≡ slotOf o (take (length file - at) (drop at file))) where
-        pub storing-next : (after′ : List ℕ) (to′ : ℕ) → Put after after′ to to′ (classOf port (packetBy (part (at + 16) (at + size) file) original)) → Storing o port file before after′ to′ (at + size)
-        storing-next after′ to′ w =
-            let k = packetAt o (drop at file) size original in
-            let frame = part (at + 16) (at + size) file in
+            let messages = takenOf port (inv .done) .messages in
             let c = class-here o file (inv .done) at (inv .walk) h size original e port in
-            let r = recorded-last port (inv .done) k in
-            let old = recordingOf (takenOf port (inv .done)) in
-            let short : length frame ≤ size - 16 = omega (arith, length-take (at + size - (at + 16)) (drop (at + 16) file)) in
-            let z = bytes-small (classOf port (packetBy frame original)) (size - 16) (λ d q. omega (arith, kept-length port (packetBy frame original) d q, short)) in
-            let n : to′ ≡ length old + length (bytesOf (classOf port k)) = w .behind ∙ ap (λ (x : ℕ). x + length (bytesOf (classOf port (packetBy frame original)))) (inv .end) ∙ ap (λ (x : Class). length old + length (bytesOf x)) c in
+            let slot = slot-here o file (inv .done) at (inv .walk) h size original e in
+            let end : at + size ≤ length file = omega (arith, slot .most, length-drop at file) in
+            let short : length (part (at + 16) (at + size) file) ≤ size - 16 = omega (arith, length-take (at + size - (at + 16)) (drop (at + 16) file)) in
+            let (y, z) = more-small _ _ _ _ _ _ _ m in
+            let (_, b) = low l in
+            let kept : length messages ≡ t .kept = sym (ap (λ (x : Counts). x .kept) (inv .counts)) in
             record {
               done = inv .done ++ (k ∷ []);
               walk = walked-next o file (inv .done) at (inv .walk) h size original e;
-              end = n ∙ sym (ap length r ∙ length-append old (bytesOf (classOf port k)));
-              small = omega (arith, w .behind, z, inv .small, slot-here o file (inv .done) at (inv .walk) h size original e .least);
-              stored =
-                  w .bytes ∙ ap (λ (x : Class). sets after to (bytesOf x)) c ∙ ap (λ (x : List ℕ). sets x to (bytesOf (classOf port k))) (inv .stored)
-                  ∙ ap (λ (x : ℕ). sets (sets before 0 old) x (bytesOf (classOf port k))) (inv .end ∙ sym (zero-add (length old)))
-                  ∙ sets-sets old (bytesOf (classOf port k)) before 0 ∙ ap (sets before 0) (sym r);
+              counts = m .counts ∙ ap (withClass t) c ∙ ap (λ (x : Counts). withClass x (classOf port k)) (inv .counts) ∙ sym (with-last port (inv .done) k);
+              small = omega (arith, z, short, inv .small);
+              few = omega (arith, y, short, inv .few, slot .least);
+              long = more-long _ _ _ _ _ _ _ m ∙ inv .long;
+              spotted =
+                  subst (Spots file spots′) (ap (λ (x : Class). messages ++ newOf x) c ∙ sym (taken-last port (inv .done) k))
+                  (spots-more file spots messages (t .kept) (at + 16) (at + size) (omega (arith, slot .least)) end l kept b (inv .long) (inv .spotted) t t′ spots′ _ refl m);
             }
-
--- one packet stored
-pub put-kept : (frame before after : List ℕ) (to from end : ℕ) (c : Class) → kept (part from end frame) ≡ c → from ≤ end → end ≤ length frame
-    → after ≡ sets before to (part from (from + (end - from)) frame) → Put before after to (to + (end - from)) c
-put-kept frame before after to from end c e l m w =
-    let n : from + (end - from) ≡ end = omega arith in
-    let z : length (part from end frame) ≡ end - from = length-take-le (end - from) (drop from frame) (omega (arith, length-drop from frame)) in
-    rw (← e) (record { bytes = w ∙ ap (λ (x : ℕ). sets before to (part from x frame)) n; behind = rw z })
-
-pub put-none : (before : List ℕ) (to : ℕ) (c : Class) → bytesOf c ≡ [] → Put before before to to c
-put-none before to c e = record { bytes = rw e; behind = rw e (sym (add-zero to)) }

@@ -7,7 +7,7 @@ use refusal::Refusal;
 use refusal::Why;
 ghost use mathlib.Core.Path.{_≡_};
 ghost use mathlib.Core.List.{[]};
-ghost use Prim.Native.Nat.{_+_, _-_, _≤_, _<_};
+ghost use Prim.Native.Nat.{_+_, _-_, _*_, _%_, _≤_, _<_};
 ghost use lib.ListN.{length};
 ghost use lib.Seq.{sets};
 ghost use Rattle.rules.specs.Bytes.{pad};
@@ -15,7 +15,7 @@ ghost use Rattle.capture.specs.File.{halfIn, wordIn, headerGood};
 ghost use Rattle.capture.specs.Frame.{ipHeader, forUs, lengthsFit, carried, checksum};
 ghost use Rattle.capture.specs.Reading.{oneMessage, classOf, readCapture};
 ghost use Rattle.capture.specs.Writing.{fileOf, writeCapture};
-ghost use Rattle.capture.specs.Told.{orderBy, slotOf, datagramForUs, packetBy, toldClass, Placed, Low, withClass, toldMeasured, countedIn, Put, StoredIn, measured, toldRead, recordFront, ipFront, udpFront, frontOf, Weighs, Sendable, Sent, Roomy, LaidBehind, Laid, toldWrite};
+ghost use Rattle.capture.specs.Told.{orderBy, slotOf, datagramForUs, packetBy, toldClass, Placed, Low, Added, noting, More, toldMeasured, countedIn, noted, SpotsIn, Stored, measured, Spotted, toldRead, recordFront, ipFront, udpFront, frontOf, Weighs, Sendable, Sent, Roomy, LaidBehind, Laid, toldWrite};
 
 // The number of 16 bits at place k in a byte order.
 fn half_in(big: bool, s: &[u8], k: usize) -> u16
@@ -163,7 +163,7 @@ enum Packed {
 
 fn class_of(port: u16, frame: &[u8], original: u32) -> Packed
     requires { ⌜ length (now frame) < 4294967296 ⌝ }
-    ensures { λ r. ⌜ (toldClass (now (frame .entry)) r ≡ classOf port (packetBy (now (frame .entry)) original)) × Placed (now (frame .entry)) r ⌝ }
+    ensures { λ r. ⌜ (toldClass (now (frame .entry)) r ≡ classOf port (packetBy (now (frame .entry)) original)) × Placed (length (now (frame .entry))) r ⌝ }
 {
     if !for_us(port, frame) {
         return Packed::NotForUs;
@@ -194,12 +194,11 @@ pub struct Counts {
 }
 
 // One packet more.
-fn with_packet(t: Counts, port: u16, frame: &[u8], original: u32) -> Counts
-    requires { ⌜ length (now frame) ≤ 65536 ⌝ }
-    requires { ⌜ Low t ⌝ }
-    ensures { λ r. ⌜ r ≡ withClass t (classOf port (packetBy (now (frame .entry)) original)) ⌝ }
+fn with_class(t: Counts, class: Packed) -> Counts
+    requires { ⌜ Low t × Placed 65536 class ⌝ }
+    ensures { λ r. ⌜ Added t class r ⌝ }
 {
-    match class_of(port, frame, original) {
+    match class {
         Packed::Kept(from, to) => Counts {
             bytes: t.bytes + (to - from),
             kept: t.kept + 1,
@@ -231,15 +230,57 @@ fn with_packet(t: Counts, port: u16, frame: &[u8], original: u32) -> Counts
     }
 }
 
+// Where a message is in the file, and how many bytes it has, in one number.
+fn spot_of(from: usize, n: usize) -> u32
+    requires { ⌜ (from < 65536) × (n < 65536) ⌝ }
+    ensures { λ r. ⌜ r ≡ from * 65536 + n ⌝ }
+{
+    from as u32 * 65536 + n as u32
+}
+
+// Notes where the message of a packet is whose frame begins at `start`, if it is kept.
+fn note(spots: &mut [u32; 800], k: usize, start: usize, class: Packed)
+    requires { ⌜ (k < 800) × (start ≤ 65536) × Placed (65536 - start) class ⌝ }
+    ensures { λ _. ⌜ now (spots .exit) ≡ noting (now (spots .entry)) k start class ⌝ }
+{
+    match class {
+        Packed::Kept(from, to) => {
+            spots[k] = spot_of(start + from, to - from);
+        }
+        Packed::NotForUs => {}
+        Packed::CutShort => {}
+        Packed::BadMessage => {}
+    }
+}
+
+// One packet more, whose frame begins at `start`.
+fn with_packet(
+    t: Counts,
+    port: u16,
+    frame: &[u8],
+    original: u32,
+    start: usize,
+    spots: &mut [u32; 800],
+) -> Counts
+    requires { ⌜ start + length (now frame) ≤ 65536 ⌝ }
+    requires { ⌜ Low t × (t .kept < 800) ⌝ }
+    ensures { λ r. ⌜ More t r (now (spots .entry)) (now (spots .exit)) start (now (frame .entry)) (classOf port (packetBy (now (frame .entry)) original)) ⌝ }
+{
+    let class = class_of(port, frame, original);
+    note(spots, t.kept, start, class);
+    with_class(t, class)
+}
+
 enum Measured {
     Fits(Counts),
     Refused(Refusal),
 }
 
-// What the records of a file in a byte order come to, or the first that the file's end cuts.
-fn count(file: &[u8], big: bool, port: u16) -> Measured
-    requires { ⌜ (24 ≤ length (now file)) × (length (now file) ≤ 65536) ⌝ }
-    ensures { λ r. ⌜ toldMeasured r ≡ countedIn (orderBy big) (now (file .entry)) port ⌝ }
+// What the records of a file in a byte order come to, or the first that the file's end cuts; and where the messages are that are kept.
+// The record of such a message has 82 bytes at least, so there are fewer than 800 of them.
+fn count(file: &[u8], big: bool, port: u16, spots: &mut [u32; 800]) -> Measured
+    requires { ⌜ (24 ≤ length (now file)) × (length (now file) ≤ 65536) × (length (now spots) ≡ 800) ⌝ }
+    ensures { λ r. ⌜ (toldMeasured r ≡ countedIn (orderBy big) (now (file .entry)) port) × SpotsIn (orderBy big) (now (file .entry)) port (now (spots .exit)) ⌝ }
 {
     let mut counts = Counts {
         bytes: 0,
@@ -254,7 +295,7 @@ fn count(file: &[u8], big: bool, port: u16) -> Measured
             Slot::Record(size, original) => {
                 let from = at + 16;
                 let next = at + size;
-                counts = with_packet(counts, port, &file[from..next], original);
+                counts = with_packet(counts, port, &file[from..next], original, from, spots);
                 at = next;
             }
             Slot::Cut => {
@@ -274,55 +315,44 @@ fn refuse(why: Why, place: usize) -> Measured
     Measured::Refused(Refusal { why, place })
 }
 
-// What reading a file comes to, or why the file is refused.
-fn measure(file: &[u8], port: u16) -> Measured
-    ensures { λ r. ⌜ toldMeasured r ≡ measured (now (file .entry)) port ⌝ }
+// What reading a file comes to, or why the file is refused; and where the messages are that are kept.
+fn measure(file: &[u8], port: u16, spots: &mut [u32; 800]) -> Measured
+    requires { ⌜ length (now spots) ≡ 800 ⌝ }
+    ensures { λ r. ⌜ (toldMeasured r ≡ measured (now (file .entry)) port) × Spotted (now (file .entry)) port (now (spots .exit)) ⌝ }
 {
     if 65536 < file.len() {
         return refuse(Why::Large, 65536);
     }
     if header_good(true, file) {
-        return count(file, true, port);
+        return count(file, true, port, spots);
     }
     if header_good(false, file) {
-        return count(file, false, port);
+        return count(file, false, port, spots);
     }
     refuse(Why::Capture, 0)
 }
 
-// Stores the message of a packet, if it is kept, from `to` on, and says where the next one goes.
-fn put_packet(out: &mut [u8], to: usize, port: u16, frame: &[u8], original: u32) -> usize
-    requires { ⌜ (length (now frame) ≤ 65536) × (to ≤ 65536) ⌝ }
-    ensures { λ r. ⌜ Put (now (out .entry)) (now (out .exit)) to r (classOf port (packetBy (now (frame .entry)) original)) ⌝ }
+// Stores the message that is noted by a spot from `to` on, and says where the next one goes.
+fn put_noted(out: &mut [u8], to: usize, file: &[u8], spot: u32) -> usize
+    requires { ⌜ to ≤ 800 * 65536 ⌝ }
+    ensures { λ r. ⌜ (now (out .exit) ≡ sets (now (out .entry)) to (noted (now (file .entry)) spot)) × (r ≡ to + spot % 65536) ⌝ }
 {
-    match class_of(port, frame, original) {
-        Packed::Kept(from, end) => {
-            let n = end - from;
-            wire::put_part(out, to, frame, from, n);
-            to + n
-        }
-        Packed::NotForUs => to,
-        Packed::CutShort => to,
-        Packed::BadMessage => to,
-    }
+    let from = (spot / 65536) as usize;
+    let n = (spot % 65536) as usize;
+    wire::put_part(out, to, file, from, n);
+    to + n
 }
 
-// Stores the recording of a file's records from the start of `out` on.
-fn store(file: &[u8], big: bool, port: u16, out: &mut [u8])
-    requires { ⌜ (24 ≤ length (now file)) × (length (now file) ≤ 65536) ⌝ }
-    ensures { λ _. ⌜ StoredIn (orderBy big) (now (file .entry)) port (now (out .entry)) (now (out .exit)) ⌝ }
+// Stores the first n messages that are noted from the start of `out` on.
+fn store(file: &[u8], spots: &[u32; 800], n: usize, out: &mut [u8])
+    requires { ⌜ n ≤ 800 ⌝ }
+    ensures { λ _. ⌜ Stored (now (file .entry)) (now (spots .entry)) n (now (out .entry)) (now (out .exit)) ⌝ }
 {
     let mut to = 0;
-    let mut at = 24;
-    while at < file.len() {
-        let found = slot_of(big, &file[at..]);
-        let Slot::Record(size, original) = found else {
-            return;
-        };
-        let from = at + 16;
-        let next = at + size;
-        to = put_packet(out, to, port, &file[from..next], original);
-        at = next;
+    let mut i = 0;
+    while i < n {
+        to = put_noted(out, to, file, spots[i]);
+        i += 1;
     }
 }
 
@@ -336,7 +366,8 @@ pub enum CaptureRead {
 pub fn read_capture(file: &[u8], port: u16, out: &mut [u8]) -> CaptureRead
     ensures { λ r. ⌜ toldRead r (now (out .exit)) ≡ readCapture (now (file .entry)) port (now (out .entry)) ⌝ }
 {
-    match measure(file, port) {
+    let mut spots = [0u32; 800];
+    match measure(file, port, &mut spots) {
         Measured::Refused(f) => CaptureRead::Refused(f),
         Measured::Fits(t) => {
             if out.len() < t.bytes {
@@ -345,7 +376,7 @@ pub fn read_capture(file: &[u8], port: u16, out: &mut [u8]) -> CaptureRead
                     place: t.bytes,
                 });
             }
-            store(file, header_good(true, file), port, out);
+            store(file, &spots, t.kept, out);
             CaptureRead::Done(t)
         }
     }

@@ -17,10 +17,10 @@ returns-2 : tie.Need-returns-2
 returns-2 c = (not-whole _ _ _ _ (c .before .before .for-us .ensures) (not-false _ (c .before .if1 .left)) _ refl (search needs), tt)
 
 sub-ip : tie.Need-sub-ip
-sub-ip c = omega (arith, for-us-long _ _ _ (c .before .before .for-us .ensures) (not-false _ (c .before .if1 .left)))
+sub-ip c = omega (arith, for-us-long _ _ _ (c .before .before .for-us .ensures) (not-false _ (c .before .if1 .left)) .0)
 
 part-ip-start : tie.Need-part-ip-start
-part-ip-start c = omega (arith, for-us-long _ _ _ (c .before .before .for-us .ensures) (not-false _ (c .before .if1 .left)))
+part-ip-start c = omega (arith, for-us-long _ _ _ (c .before .before .for-us .ensures) (not-false _ (c .before .if1 .left)) .0)
 
 part-ip-end : tie.Need-part-ip-end
 part-ip-end c = search needs
@@ -89,7 +89,7 @@ returns-5 c =
     let o = l .before .before .before .before in
     let long = for-us-long _ _ _ (o .for-us .ensures) (not-false _ (l .before .before .before .if1 .left)) in
     let fits = fitted _ _ (l .lengths-fit .ensures) (not-false _ (h .before .if3 .left)) _ (h .header-of .ensures .0) _ (u .half-at .ensures) in
-    (is-one _ _ _ _ (o .for-us .ensures) (not-false _ (l .before .before .before .if1 .left)) _ refl (search needs) _ (l .lengths-fit .ensures) (not-false _ (h .before .if3 .left)) _ (h .header-of .ensures .0) _ (u .half-at .ensures) _ (c .before .one-message .ensures) (not-false _ (c .if4 .left)), inside (o .before .before .args .frame .now) _ _ long fits)
+    (is-one _ _ _ _ (o .for-us .ensures) (not-false _ (l .before .before .before .if1 .left)) _ refl (search needs) _ (l .lengths-fit .ensures) (not-false _ (h .before .if3 .left)) _ (h .header-of .ensures .0) _ (u .half-at .ensures) _ (c .before .one-message .ensures) (not-false _ (c .if4 .left)), inside (o .before .before .args .frame .now) _ _ long fits (h .header-of .ensures .0) _ (c .before .one-message .ensures) (not-false _ (c .if4 .left)))
 
 pub class-of-spec : {M : Type 1} → statement M
 class-of-spec =

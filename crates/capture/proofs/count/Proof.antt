@@ -15,10 +15,10 @@ use Rattle.capture.proofs.slot_of.Reads as slot-of-reads
 use Rattle.capture.proofs.with_packet.Reads as with-packet-reads
 
 abbrev Inv-loop : tie.InvT-loop
-Inv-loop file big port counts₀ at₀ counts at = (length file ≤ 65536) × Counting (orderBy big) port file counts at
+Inv-loop file big port spots₀ counts₀ at₀ spots counts at = (length file ≤ 65536) × Counting (orderBy big) port file counts spots at
 
 abbrev μ-loop : tie.MeasureT-loop
-μ-loop file big port counts₀ at₀ counts at = length file - at
+μ-loop file big port spots₀ counts₀ at₀ spots counts at = length file - at
 
 -- a record was read
 abbrev Read : Type 0
@@ -38,7 +38,9 @@ within : (c : Read) → c .before .before .before .before .before .before .loop 
 within c = omega (arith, slot c .most, length-drop (c .before .before .before .before .before .before .loop .at) (c .before .before .before .before .before .before .before .before .args .file .now), before c)
 
 loop-holds : tie.Need-loop-holds Inv-loop μ-loop
-loop-holds c = (search needs, counting-start (orderBy (c .before .args .big)) (c .before .args .port) (c .before .args .file .now) (search needs))
+loop-holds c =
+    let a = c .before .args in
+    (search needs, counting-start (orderBy (a .big)) (a .port) (a .file .now) (a .spots .now) (search needs) (search needs))
 
 sub-slot-of : tie.Need-sub-slot-of Inv-loop μ-loop
 sub-slot-of c = search needs
@@ -72,20 +74,20 @@ part-with-packet-end c = within c
 
 with-packet-requires : tie.Need-with-packet-requires Inv-loop μ-loop
 with-packet-requires c κs =
-    let d = c .before in
-    let l = d .before .before .before .before .before .before .loop in
-    let a = d .before .before .before .before .before .before .before .before .args in
-    (omega (arith, length-take (l .at + d .before .size .given .0 .0 - (l .at + 16)) (drop (l .at + 16) (a .file .now)), length-drop (l .at + 16) (a .file .now), l .inv .0), low (orderBy (a .big)) (a .port) (a .file .now) (l .counts) (l .at) (l .inv .1) (l .inv .0))
-
-loop-less : tie.Need-loop-less Inv-loop μ-loop
-loop-less c = omega (arith, slot (c .before .before) .least, before (c .before .before))
-
-loop-again : tie.Need-loop-again Inv-loop μ-loop
-loop-again c =
     let d = c .before .before in
     let l = d .before .before .before .before .before .before .loop in
     let a = d .before .before .before .before .before .before .before .before .args in
-    (l .inv .0, counting-next (orderBy (a .big)) (a .port) (a .file .now) (l .counts) (l .at) (l .inv .1) (before d) _ _ (slot-is d) _ (c .with-packet .ensures))
+    (omega (arith, length-take (l .at + d .before .size .given .0 .0 - (l .at + 16)) (drop (l .at + 16) (a .file .now)), within d, slot d .least, l .inv .0), low (orderBy (a .big)) (a .port) (a .file .now) (l .counts) (l .spots) (l .at) (l .inv .1) (l .inv .0))
+
+loop-less : tie.Need-loop-less Inv-loop μ-loop
+loop-less c = omega (arith, slot (c .before .before .before) .least, before (c .before .before .before))
+
+loop-again : tie.Need-loop-again Inv-loop μ-loop
+loop-again c =
+    let d = c .before .before .before in
+    let l = d .before .before .before .before .before .before .loop in
+    let a = d .before .before .before .before .before .before .before .before .args in
+    (l .inv .0, counting-next (orderBy (a .big)) (a .port) (a .file .now) (l .counts) (l .spots) (l .at) (l .inv .1) (before d) _ _ (slot-is d) _ _ (l .inv .0) (c .with-packet .ensures))
 
 enum-told : tie.Need-enum-told Inv-loop μ-loop
 enum-told c = search needs
@@ -94,13 +96,13 @@ returns : tie.Need-returns Inv-loop μ-loop
 returns c =
     let l = c .before .before .before .before .before .loop in
     let a = c .before .before .before .before .before .before .before .args in
-    counting-cut (orderBy (a .big)) (a .port) (a .file .now) (l .counts) (l .at) (l .inv .1) (search needs) (sym (c .enum-told .given .1) ∙ c .before .before .slot-of .ensures)
+    counting-cut (orderBy (a .big)) (a .port) (a .file .now) (l .counts) (l .spots) (l .at) (l .inv .1) (search needs) (sym (c .enum-told .given .1) ∙ c .before .before .slot-of .ensures)
 
 returns-2 : tie.Need-returns-2 Inv-loop μ-loop
 returns-2 c =
     let l = c .before .loop in
     let a = c .before .before .before .args in
-    counting-end (orderBy (a .big)) (a .port) (a .file .now) (l .counts) (l .at) (l .inv .1) (search needs)
+    counting-end (orderBy (a .big)) (a .port) (a .file .now) (l .counts) (l .spots) (l .at) (l .inv .1) (search needs)
 
 pub count-spec : {M : Type 1} → statement M
 count-spec =

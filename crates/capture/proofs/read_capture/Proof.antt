@@ -1,8 +1,7 @@
 -- `capture::read_capture` meets its contract: a law for each answer.
-use mathlib.Core.Path.{ap, sym, subst, _∙_}
-use mathlib.Core.Bool.{Bool}
-use Rattle.capture.specs.Told.{orderBy, toldMeasured, StoredIn}
-use Rattle.capture.proofs.Measuring.{sized, read-refused, read-no-room, read-done}
+use mathlib.Core.Path.{ap, sym, _∙_}
+use Rattle.capture.specs.Told.{toldMeasured}
+use Rattle.capture.proofs.Measuring.{sized, read-refused, read-no-room, few, read-done}
 use borrow.Author.Needs.{needs}
 use Rattle.capture.proofs.read_capture.Statement.{statement}
 use Rattle.capture.proofs.read_capture.Tie as tie
@@ -17,27 +16,34 @@ enum-known-t : tie.Need-enum-known-t
 enum-known-t c = search needs
 
 returns : tie.Need-returns
-returns c = read-no-room (c .before .before .before .before .before .before .before .before .args .file .now) (c .before .before .before .before .before .before .before .before .args .port) (c .before .before .before .before .before .before .before .before .args .out .now) (c .before .before .before .t .given .0 .0) (sized (c .before .before .before .before .before .before .before .before .args .file .now) (c .before .before .before .before .before .before .before .before .args .port) (c .before .before .before .t .given .0 .0) (ap toldMeasured (sym (c .before .before .before .t .given .1)) ∙ c .before .before .before .before .before .measure .ensures)) (search needs)
-
-header-good-requires : tie.Need-header-good-requires
-header-good-requires c κs = search needs
+returns c =
+    let a = c .before .before .before .before .before .before .before .before .before .args in
+    let m = c .before .before .before .before .before .measure .ensures in
+    let t = c .before .before .before .t .given in
+    let s = sized (a .file .now) (a .port) (t .0 .0) (ap toldMeasured (sym (t .1)) ∙ m .0) in
+    read-no-room (a .file .now) (a .port) (a .out .now) (t .0 .0) s (search needs)
 
 store-requires : tie.Need-store-requires
 store-requires c κs =
-    let s = sized (c .before .before .before .before .before .before .before .before .before .before .args .file .now) (c .before .before .before .before .before .before .before .before .before .before .args .port) (c .before .before .before .before .before .t .given .0 .0) (ap toldMeasured (sym (c .before .before .before .before .before .t .given .1)) ∙ c .before .before .before .before .before .before .before .measure .ensures) in
-    (s .least, s .most)
+    let a = c .before .before .before .before .before .before .before .before .before .before .before .args in
+    let m = c .before .before .before .before .before .before .before .measure .ensures in
+    let t = c .before .before .before .before .before .t .given in
+    let s = sized (a .file .now) (a .port) (t .0 .0) (ap toldMeasured (sym (t .1)) ∙ m .0) in
+    few (a .file .now) (a .port) (a .out .now) (t .0 .0) s _ (m .1)
 
 returns-2 : tie.Need-returns-2
-returns-2 c = read-refused (c .before .before .before .before .before .before .args .file .now) (c .before .before .before .before .before .before .args .port) (c .before .before .before .before .before .before .args .out .now) _ _ (ap toldMeasured (sym (c .before .f .given .1)) ∙ c .before .before .before .measure .ensures)
+returns-2 c = let a = c .before .before .before .before .before .before .before .args in read-refused (a .file .now) (a .port) (a .out .now) _ _ (ap toldMeasured (sym (c .before .f .given .1)) ∙ c .before .before .before .measure .ensures .0)
 
 same-length : tie.Need-same-length
 same-length c = search needs
 
 returns-3 : tie.Need-returns-3
 returns-3 c =
-    let a = c .before .before .before .before .before .before .before .before .before .before .before .before .before .args in
-    read-done (a .file .now) (a .port) (a .out .now) (c .before .before .before .before .before .before .before .before .t .given .0 .0) (sized (c .before .before .before .before .before .before .before .before .before .before .before .before .before .args .file .now) (c .before .before .before .before .before .before .before .before .before .before .before .before .before .args .port) (c .before .before .before .before .before .before .before .before .t .given .0 .0) (ap toldMeasured (sym (c .before .before .before .before .before .before .before .before .t .given .1)) ∙ c .before .before .before .before .before .before .before .before .before .before .measure .ensures)) _ (search needs)
-    (subst (λ (b : Bool). StoredIn (orderBy b) (a .file .now) (a .port) (a .out .now) (c .before .before .store .last .1 .1 .1 .0)) (c .before .before .before .before .header-good .ensures) (c .before .before .store .ensures))
+    let a = c .before .before .before .before .before .before .before .before .before .before .before .before .before .before .args in
+    let m = c .before .before .before .before .before .before .before .before .before .before .measure .ensures in
+    let t = c .before .before .before .before .before .before .before .before .t .given in
+    let s = sized (a .file .now) (a .port) (t .0 .0) (ap toldMeasured (sym (t .1)) ∙ m .0) in
+    read-done (a .file .now) (a .port) (a .out .now) (t .0 .0) s _ (m .1) _ (search needs) (c .before .before .store .ensures)
 
 pub read-capture-spec : {M : Type 1} → statement M
 read-capture-spec =
@@ -47,7 +53,6 @@ read-capture-spec =
     enum-known-f
     enum-known-t
     returns
-    header-good-requires
     store-requires
     returns-2
     same-length
