@@ -12,13 +12,6 @@ use Rattle.numbered.specs.Numbering.{State}
 use Rattle.numbered.specs.Quota.{Report}
 use Rattle.hibernaxo.specs.Told.{numbersFrom, stateValues, reportValues, steppedTold}
 
--- one number more is stored behind those stored from a place on
-pub put-next : (b l : List ℕ) (at i d : ℕ) → i < length l → set (sets b at (take i l)) (at + i) (getD l i d) ≡ sets b at (take (i + 1) l)
-put-next b l at i d h =
-    let n : length (take i l) ≡ i = length-take-le i l (omega arith) in
-    ap (λ (k : ℕ). set (sets b at (take i l)) (at + k) (getD l i d)) (sym n) ∙ sets-sets (take i l) (getD l i d ∷ []) b at
-    ∙ ap (sets b at) (sym (take-suc l i d h)) ∙ ap (λ (k : ℕ). sets b at (take k l)) (sym (add-one i))
-
 -- one number more of those from a place on
 from-more : (n at : ℕ) (l : List ℕ) → numbersFrom (n + 1) at l ≡ numbersFrom n at l ++ (getD l (at + n) 0 ∷ [])
 unfolding numbersFrom

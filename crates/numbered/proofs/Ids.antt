@@ -95,7 +95,7 @@ ids-counted x (n ∷ ns) = go (eqb x (n .id)) (ids-counted x ns)
     go true e = refl
     go false e = ap (λ (l : List ℕ). n .id ∷ l) e
 
-after-same : (ns ks : List Running) (es : List Entry) → map idOf ns ≡ map idOf ks → map idOf (numbersAfter ns es) ≡ map idOf (numbersAfter ks es)
+pub after-same : (ns ks : List Running) (es : List Entry) → map idOf ns ≡ map idOf ks → map idOf (numbersAfter ns es) ≡ map idOf (numbersAfter ks es)
 unfolding numbersAfter
 after-same ns ks [] e = e
 after-same ns ks (x ∷ es) e = after-same (countedOn (x .id) ns) (countedOn (x .id) ks) es (ids-counted (x .id) ns ∙ ap (seenWith (x .id)) e ∙ sym (ids-counted (x .id) ks))

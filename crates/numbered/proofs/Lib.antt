@@ -16,4 +16,5 @@ pub mod Tally
 pub mod Written
 pub mod Twice
 pub mod Whole
+pub mod Alone
 pub mod Same

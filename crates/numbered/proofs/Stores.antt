@@ -3,9 +3,10 @@ use Prim.Native.Nat.{ℕ, suc, _+_, _-_, _*_, _/_, _%_, _<_}
 use mathlib.Core.Path.{_≡_, refl, sym, ap, _∙_}
 use mathlib.Core.List.{List, [], _∷_, _++_}
 use native.Mathlib.Nat.{add-zero, add-suc, suc-add, div-div-eq-div-mul}
+use native.Mathlib.Numerals.{add-one}
 use native.Mathlib.Omega.{arith}
-use lib.ListN.{length, drop, set, replicate, length-drop}
-use lib.Seq.{sets, set-comm, length-take-le}
+use lib.ListN.{length, getD, take, drop, set, replicate, length-drop}
+use lib.Seq.{sets, set-comm, take-suc, length-take-le}
 use Rattle.rules.specs.Bytes.{put16, put32, part}
 use Rattle.rules.proofs.Loops.{sets-sets}
 use Rattle.message.specs.declared.Header.{Header}
@@ -20,6 +21,13 @@ set-sets (y ∷ ys) b i j x l = set-sets ys (set b j y) i (suc j) x (omega arith
 pub sets-before : (xs ys b : List ℕ) (i : ℕ) → sets (sets b (i + length xs) ys) i xs ≡ sets b i (xs ++ ys)
 sets-before [] ys b i = rw add-zero
 sets-before (x ∷ xs) ys b i = rw (add-suc, ← suc-add) (ap (λ (c : List ℕ). sets c (suc i) xs) (set-sets ys b i (suc i + length xs) x (omega arith)) ∙ sets-before xs ys (set b i x) (suc i))
+
+-- one number more is stored behind those stored from a place on
+pub put-next : (b l : List ℕ) (at i d : ℕ) → i < length l → set (sets b at (take i l)) (at + i) (getD l i d) ≡ sets b at (take (i + 1) l)
+put-next b l at i d h =
+    let n : length (take i l) ≡ i = length-take-le i l (omega arith) in
+    ap (λ (k : ℕ). set (sets b at (take i l)) (at + k) (getD l i d)) (sym n) ∙ sets-sets (take i l) (getD l i d ∷ []) b at
+    ∙ ap (sets b at) (sym (take-suc l i d h)) ∙ ap (λ (k : ℕ). sets b at (take k l)) (sym (add-one i))
 
 -- two words, one behind the other
 pub words-all : (b : List ℕ) (at x y : ℕ) {b1 b2 : List ℕ} → b1 ≡ sets b at (put32 x []) → b2 ≡ sets b1 (at + 4) (put32 y []) → b2 ≡ sets b at (put32 x (put32 y []))

@@ -5,7 +5,7 @@ use mathlib.Core.Bool.{Bool, true, false}
 use mathlib.Core.List.{List, [], _∷_, _++_, map}
 use native.Mathlib.Omega.{arith}
 use lib.Dec.{leb, ltb, eqb}
-use lib.ListN.{length, take, drop, replicate, length-append, length-replicate}
+use lib.ListN.{length, take, drop, length-append}
 use borrow.Author.Tests.{le-ltb, lt-ltb, ltb-true, ltb-false, leb-true, leb-false}
 use Rattle.rules.specs.Outcome.{good, bad}
 use Rattle.rules.specs.Message as messages
@@ -15,7 +15,7 @@ use Rattle.rules.specs.Items.{count}
 use Rattle.rules.specs.Packages as rules
 use Rattle.rules.specs.Copy.{withEntryOf, released, packagesIn}
 use Rattle.rules.proofs.Growing.{map-append}
-use Rattle.rules.proofs.Outcomes.{pass, halt, after, step, stop, stop-before}
+use Rattle.rules.proofs.Outcomes.{pass, halt, after, step, stop, stop-before, good-inj, good≢bad}
 use Rattle.refusal.specs.declared.Refusal.{Refusal}
 use Rattle.refusal.specs.declared.Why.the-variants.{Large}
 use Rattle.refusal.specs.Numbers.{IDS, numberOf}
@@ -25,12 +25,13 @@ use Rattle.message.specs.Answers.{toldMessage}
 use Rattle.rules.specs.Reading.{messageAt}
 use Rattle.numbered.specs.declared.Size.{Size}
 use Rattle.numbered.specs.declared.Totals.{Totals}
-use Rattle.numbered.specs.declared.Answer.{Answer}
+use Rattle.numbered.specs.declared.Progress.{Progress}
+use Rattle.numbered.specs.declared.Counted.{Counted}
 use Rattle.numbered.specs.declared.Answer.the-variants as answer
 use Rattle.numbered.specs.declared.Seats.{Seats}
 use Rattle.numbered.specs.Parts.{messageBy, withEntry, Sized, entered, Single, named, Seated, judgedBy, judgedAs}
-use Rattle.numbered.specs.Told.{totals, progress, measured, toldMeasure}
-use Rattle.numbered.specs.Numbering.{numberedMessages, numberedBytes, idOf}
+use Rattle.numbered.specs.Told.{totals, progress, measured, toldMeasure, Counts}
+use Rattle.numbered.specs.Numbering.{numbersAfter, numberedMessages, numberedBytes, idOf}
 use Rattle.numbered.specs.Quota.{Taken, takenAt, takenFrom, messageOf, bytesTaken, idsFit}
 use Rattle.numbered.proofs.Taking.{Taking, taking-start, taking-end, taking-full, taking-next, taking-bad}
 use Rattle.numbered.proofs.Entries.{Met, met, no-message, it, order, inside, behind, run-length, cut-is, it-is, it-passes, ps, id-is, grown, grown-one, totals-grown}
@@ -73,6 +74,19 @@ pub record Tallying (rs : List rows.Row) (input : List ℕ) (quota : ℕ) (done 
   pub bounds : Bounded t k
   pub so-far : t ≡ totals (released rs (map messageOf done))
 
+-- a refusal
+module _ (rs : List rows.Row) (input : List ℕ) (quota : ℕ) (known : List ℕ) (room : ℕ) (fresh : List ℕ) (f : Refusal) (r : Counted) (is : r .answer ≡ answer.Refused f) where
+  not-done : (p : Progress) → r .answer ≡ answer.Done p → ⊥
+  not-done p e = good≢bad (ap toldMeasure (sym is ∙ e))
+
+  counts-refused : toldMeasure (answer.Refused f) ≡ measured rs input quota known room → Counts rs input quota known room fresh r
+  counts-refused e = record {
+    told = ap toldMeasure is ∙ e;
+    small = λ p d. absurd (not-done p d);
+    few = λ p d. absurd (not-done p d);
+    ids = λ p d. absurd (not-done p d);
+  }
+
 module _ (rs : List rows.Row) (input : List ℕ) (quota : ℕ) (known : List ℕ) (room : ℕ) where
   -- and their ids were counted, where they could become too many
   pub record Measuring (t : Totals) (handled : ℕ) (fresh : List ℕ) (seats : Seats) (k : ℕ) : Type 0 where
@@ -82,9 +96,9 @@ module _ (rs : List rows.Row) (input : List ℕ) (quota : ℕ) (known : List ℕ
     pub counted : room ≤ 64 → Seating rs known room fresh seats done
     pub idle : 64 < room → seats .many ≡ 0
 
-  pub measure-start : Single known → Measuring (record { bytes = 0; messages = 0; packages = 0 }) 0 (replicate 64 0) (record { many = 0; over = 0 }) 0
+  pub measure-start : (fresh : List ℕ) → length fresh ≡ 64 → Single known → Measuring (record { bytes = 0; messages = 0; packages = 0 }) 0 fresh (record { many = 0; over = 0 }) 0
   unfolding released numberedBytes numberedMessages packagesIn bytesTaken
-  measure-start single = record {
+  measure-start fresh long single = record {
     done = [];
     tally = record {
       doing = taking-start input quota;
@@ -96,8 +110,8 @@ module _ (rs : List rows.Row) (input : List ℕ) (quota : ℕ) (known : List ℕ
       bounds = record { small = omega arith; few = omega arith; fewer = omega arith };
       so-far = refl;
     };
-    long = length-replicate {A = ℕ} 64 0;
-    counted = λ c. seating-start rs known room (replicate 64 0) single;
+    long = long;
+    counted = λ c. seating-start rs known room fresh single;
     idle = λ l. refl;
   }
 
@@ -142,14 +156,28 @@ module _ (rs : List rows.Row) (input : List ℕ) (quota : ℕ) (known : List ℕ
           go false c over = absurd (omega (arith, over, inv .idle (leb-false room 64 c)))
       judged-with false o = ap (λ (b : Bool). toldMeasure (judgedBy (progress handled k t) seats b)) o ∙ fits (counting (leb room 64) refl (ltb-false room (seats .many) o))
 
-      told-by : (r : Answer) → r ≡ judgedAs (progress handled k t) seats room → toldMeasure r ≡ measured rs input quota known room
-      told-by r e = ap toldMeasure e ∙ judged-with (ltb room (seats .many)) refl
+      -- where it is done, the ids are not too many
+      judged-done : (p : Progress) → judgedAs (progress handled k t) seats room ≡ answer.Done p → (seats .many ≤ room) × (progress handled k t ≡ p)
+      judged-done p e = go (ltb room (seats .many)) refl e
+        where
+          go : (b : Bool) → ltb room (seats .many) ≡ b → judgedBy (progress handled k t) seats b ≡ answer.Done p → (seats .many ≤ room) × (progress handled k t ≡ p)
+          go true o q = absurd (good≢bad (ap toldMeasure q))
+          go false o q = (ltb-false room (seats .many) o, good-inj (ap toldMeasure q))
 
-    pub measure-ended : (64 < room → 1820 ≤ room) → length input ≤ k → (r : Answer) → r ≡ judgedAs (progress handled k t) seats room → toldMeasure r ≡ measured rs input quota known room
-    measure-ended wide l = told-by wide (taking-end input quota (inv .done) k (tally .doing) l)
+      counts : Counts rs input quota known room fresh (record { answer = judgedAs (progress handled k t) seats room; many = seats .many })
+      counts = record {
+        told = judged-with (ltb room (seats .many)) refl;
+        small = λ p e. omega (arith, ap (λ (x : Progress). x .bytes) (judged-done p e .1), tally .bounds .small, tally .inside, short);
+        few = λ p e. judged-done p e .0;
+        ids = λ p e c ts read. ap (λ (x : List Taken). map idOf (numbersAfter (named known) (released rs (map messageOf x)))) (good-inj (sym read ∙ all)) ∙ inv .counted c .under (judged-done p e .0) .held;
+      }
 
-    pub measure-full : (64 < room → 1820 ≤ room) → handled ≡ quota → (r : Answer) → r ≡ judgedAs (progress handled k t) seats room → toldMeasure r ≡ measured rs input quota known room
-    measure-full wide e = told-by wide (taking-full input quota (inv .done) k (tally .doing) (sym (tally .many) ∙ e))
+    module _ (wide : 64 < room → 1820 ≤ room) (r : Counted) (is : r ≡ record { answer = judgedAs (progress handled k t) seats room; many = seats .many }) where
+      pub measure-ended : length input ≤ k → Counts rs input quota known room fresh r
+      measure-ended l = subst (Counts rs input quota known room fresh) (sym is) (counts wide (taking-end input quota (inv .done) k (tally .doing) l))
+
+      pub measure-full : handled ≡ quota → Counts rs input quota known room fresh r
+      measure-full e = subst (Counts rs input quota known room fresh) (sym is) (counts wide (taking-full input quota (inv .done) k (tally .doing) (sym (tally .many) ∙ e)))
 
     -- the id of a message more is once among those known, and among the fresh ones
     pub fresh-once : (x : ℕ) → room ≤ 64 → seats .many ≤ room → count x (take (seats .many) fresh) ≤ 1
@@ -159,11 +187,14 @@ module _ (rs : List rows.Row) (input : List ℕ) (quota : ℕ) (known : List ℕ
       left : length (inv .done) < quota
       left = omega (arith, tally .many, tally .within)
 
-      pub measure-refused : (f : Refusal) → toldMessage (M.Refused f) ≡ messageAt input k → toldMeasure (answer.Refused f) ≡ measured rs input quota known room
+      refused-told : (f : Refusal) → toldMessage (M.Refused f) ≡ messageAt input k → toldMeasure (answer.Refused f) ≡ measured rs input quota known room
       unfolding measured takenAt
-      measure-refused f e =
+      refused-told f e =
           let b : takenFrom input quota ≡ bad (numberOf (f .why)) (f .place) = taking-bad input quota (inv .done) k (tally .doing) l left (stop _ _ (no-message input k short f e)) in
           sym (pass _ _ _ _ (le-ltb 65536 (length input) short) (stop _ _ b))
+
+      pub measure-refused : (f : Refusal) (r : Counted) → r .answer ≡ answer.Refused f → toldMessage (M.Refused f) ≡ messageAt input k → Counts rs input quota known room fresh r
+      measure-refused f r a e = counts-refused rs input quota known room fresh f r a (refused-told f e)
 
       module _ (m : Message) (e : toldMessage (M.Message m) ≡ messageAt input k) where
         abbrev g : Met input k m
@@ -216,6 +247,7 @@ module _ (rs : List rows.Row) (input : List ℕ) (quota : ℕ) (known : List ℕ
             }
 
 -- an input that is too long
-pub large : (rs : List rows.Row) (input : List ℕ) (quota : ℕ) (known : List ℕ) (room : ℕ) → 65536 < length input → toldMeasure (answer.Refused (record { why = Large; place = 65536 })) ≡ measured rs input quota known room
+pub large : (rs : List rows.Row) (input : List ℕ) (quota : ℕ) (known : List ℕ) (room : ℕ) (fresh : List ℕ) (r : Counted) → r .answer ≡ answer.Refused (record { why = Large; place = 65536 }) → 65536 < length input
+    → Counts rs input quota known room fresh r
 unfolding measured
-large rs input quota known room l = sym (halt _ _ _ _ (lt-ltb 65536 (length input) l))
+large rs input quota known room fresh r is l = counts-refused rs input quota known room fresh (record { why = Large; place = 65536 }) r is (sym (halt _ _ _ _ (lt-ltb 65536 (length input) l)))

@@ -8,7 +8,7 @@ use native.Mathlib.Nat.{zero-add}
 use native.Mathlib.Omega.{arith}
 use borrow.Author.Tests.{ltb-false, le-ltb, eqb-true, leb-true, leb-false, eq-eqb, ne-eqb, le-leb, lt-leb}
 use lib.Dec.{leb, ltb, eqb}
-use lib.ListN.{length, take, replicate, length-take}
+use lib.ListN.{length, take, replicate, length-append, length-take, length-replicate}
 use lib.Seq.{sets, take-append-seam, length-take-le}
 use Rattle.rules.specs.Outcome.{Outcome, good, bad, _>>_}
 use Rattle.rules.specs.Items.{items, count}
@@ -16,6 +16,7 @@ use Rattle.rules.specs.Message.{Message, message}
 use Rattle.rules.specs.Sheet as rows
 use Rattle.rules.specs.Sheet.{sheetRows}
 use Rattle.rules.specs.Copy.{Entry, released}
+use Rattle.rules.proofs.Loops.{sets-sets}
 use Rattle.rules.proofs.Outcomes.{pass, halt, after, step, stop, passed, came-after, stepped, good-inj, good≢bad, refused-step, refused-at, refused-pass, stop-before}
 use Rattle.refusal.specs.declared.Refusal.{Refusal}
 use Rattle.refusal.specs.declared.Why.the-variants.{Room, Ids}
@@ -34,9 +35,9 @@ use Rattle.numbered.specs.Quota.{badIds, Taken, takenFrom, messageOf, by
 use Rattle.numbered.specs.Parts.{sheetOf, named, Single, Roomy, Wrote, knownOf, roomOf, Most, refusedIds}
 use Rattle.numbered.specs.Told.{totals, progress, measured, toldMeasure, report, stateOf, told}
 use Rattle.numbered.proofs.Messages.{First, first-taken, few-released}
-use Rattle.numbered.proofs.States.{beside-ids, beside-length, length-map, good-few, good-single}
+use Rattle.numbered.proofs.States.{beside-ids, beside-length, length-map, sets-same, good-few, good-single}
 use Rattle.numbered.proofs.Twice.{twice-once}
-use Rattle.numbered.proofs.Ids.{ids-few, ids-good, ids-same, after-length, refused-ids, refused-room, copy-done}
+use Rattle.numbered.proofs.Ids.{ids-few, ids-good, after-same, ids-same, after-length, refused-ids, refused-room, copy-done}
 use Rattle.numbered.proofs.Seating.{named-ids}
 use Rattle.numbered.proofs.Entries.{bytes-length}
 
@@ -78,12 +79,27 @@ shorter-first m n l = rw (le-leb m n l, shorter)
 pub shorter-second : (m n : ℕ) → n < m → n ≡ shorter m n
 shorter-second m n l = rw (lt-leb m n l, shorter)
 
-shorter-least : (m n : ℕ) → (shorter m n ≤ m) × (shorter m n ≤ n)
+pub shorter-least : (m n : ℕ) → (shorter m n ≤ m) × (shorter m n ≤ n)
 shorter-least m n = go (leb m n) refl
   where
     go : (b : Bool) → leb m n ≡ b → (elim b [ true ↦ m | false ↦ n ] ≤ m) × (elim b [ true ↦ m | false ↦ n ] ≤ n)
     go true e = (omega arith, leb-true m n e)
     go false e = (omega (arith, leb-false m n e), omega arith)
+
+shorter-both : (k m n : ℕ) → k ≤ m → k ≤ n → k ≤ shorter m n
+shorter-both k m n a b = go (leb m n)
+  where
+    go : (c : Bool) → k ≤ elim c [ true ↦ m | false ↦ n ]
+    go true = a
+    go false = b
+
+-- 64 at most in so many places beside as many numbers
+pub most-ids : (ids : List ℕ) (held most : ℕ) → most ≤ length ids → most ≤ 64 → Most (shorter (length ids) (length {A = ℕ} (replicate (length ids) 0))) held most
+most-ids ids held most l m = record {
+  inside = shorter-both most (length ids) (length {A = ℕ} (replicate (length ids) 0)) l (omega (arith, length-replicate {A = ℕ} (length ids) 0));
+  wide = λ f. absurd (omega arith);
+  small = omega arith;
+}
 
 pub most-held : (places held : ℕ) → (held ≡ 0 → ⊥) → shorter places 64 ≡ mostIn places held
 most-held places held h = rw (ne-eqb held 0 h, mostIn)
@@ -355,6 +371,38 @@ module _ (input sheetBytes : List ℕ) (quota : ℕ) (ids next : List ℕ) (held
             ∙ ap (λ (s : State). (reported state buffer (good (m rs p good-ids e .taken, (es rs p good-ids e))) .0, s, out)) st
             ∙ ap (λ (o : List ℕ). (reported state buffer (good (m rs p good-ids e .taken, (es rs p good-ids e))) .0, holding state (numbers rs p good-ids e), o)) b
             ∙ sym (copy-done most input sheetBytes quota state buffer rs (m rs p good-ids e .taken) good-ids valid (m rs p good-ids e .short) (m rs p good-ids e .read) (fit rs p good-ids e) (omega (arith, long rs p good-ids e)))
+
+        -- measured from ids alone, as if written from any numbers: the fresh ids are stored behind those known
+        module _ (room : p .bytes ≤ length buffer) (fresh : List ℕ) (many : ℕ) (few : many ≤ length fresh)
+            (are : (ts : List Taken) → takenFrom input quota ≡ good ts → map idOf (numbersAfter (named (take held ids)) (released rs (map messageOf ts))) ≡ take held ids ++ take many fresh) where
+          abbrev entries : List Entry
+          entries = es rs p good-ids e
+
+          abbrev after-it : List Running
+          after-it = numbers rs p good-ids e
+
+          ids-are : map idOf after-it ≡ take held ids ++ take many fresh
+          ids-are = after-same (runningIn state) (named (take held ids)) entries (sym (same-ids good-ids)) ∙ are (m rs p good-ids e .taken) (m rs p good-ids e .read)
+
+          stored-behind : sets ids held (take many fresh) ≡ sets ids 0 (take held ids ++ take many fresh)
+          stored-behind =
+              let k : 0 + length (take held ids) ≡ held = zero-add (length (take held ids)) ∙ ids-long good-ids in
+              ap (λ (b : List ℕ). sets b held (take many fresh)) (sym (sets-same held ids (omega (arith, held-few good-ids, ids-many good-ids))))
+              ∙ ap (λ (i : ℕ). sets (sets ids 0 (take held ids)) i (take many fresh)) (sym k) ∙ sets-sets (take held ids) (take many fresh) ids 0
+
+          pub done-ids : (next′ : List ℕ) × (out : List ℕ) × (told (record { answer = answer.Done p; held = held + many }) (sets ids held (take many fresh)) next′ out ≡ settled false most input sheetBytes quota state buffer)
+          done-ids = (
+            sets next 0 (map nextOf after-it),
+            sets buffer 0 (bytes rs p good-ids e),
+            done room (sets ids held (take many fresh)) (sets next 0 (map nextOf after-it)) (held + many) (sets buffer 0 (bytes rs p good-ids e)) (record {
+              numbers = after-it;
+              are = λ ms q. ap (λ (x : List Message). numbersAfter (runningIn state) (released rs x)) (good-inj (sym (part-read rs p good-ids e) ∙ q));
+              bytes = λ ms q. ap (λ (x : List Message). sets buffer 0 (numberedBytes (runningIn state) (released rs x))) (good-inj (sym (part-read rs p good-ids e) ∙ q));
+              ids-after = stored-behind ∙ ap (sets ids 0) (sym ids-are);
+              next-after = refl;
+              held-after = omega (arith, length-map idOf after-it, ap length ids-are, length-append (take held ids) (take many fresh), ids-long good-ids, length-take-le many fresh few);
+            }),
+          )
 
 -- whether it is measured alone
 pub as-written : {alone : Bool} (most : ℕ) (input sheetBytes : List ℕ) (quota : ℕ) (state : State) (buffer : List ℕ) {x : Report × State × List ℕ}

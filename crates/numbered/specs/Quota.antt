@@ -3,12 +3,12 @@ use Prim.Native.Nat.{ℕ, zero, suc, _+_, _-_}
 use mathlib.Core.Bool.{Bool, true, false, _&&_, _||_}
 use mathlib.Core.List.{List, [], _∷_, map}
 use lib.Dec.{leb, ltb, eqb}
-use lib.ListN.{length, take}
+use lib.ListN.{length, take, replicate}
 use lib.Seq.{sets}
 use Rattle.rules.specs.Outcome.{Outcome, good, bad, refuse, _>>_, _>>=_, _∷>_}
 use Rattle.refusal.specs.Numbers.{IDS}
 use Rattle.rules.specs.Items.{count}
-use Rattle.rules.specs.Message.{notLarge, Message, message}
+use Rattle.rules.specs.Message.{mostBytes, notLarge, Message, message}
 use Rattle.rules.specs.Buffer.{fitted}
 use Rattle.rules.specs.Sheet.{Row, sheet}
 use Rattle.rules.specs.Copy as rules
@@ -115,6 +115,16 @@ numberedCopy most input sheetBytes quota state buffer = reported state buffer (d
 unfoldable pub settled : Bool → ℕ → List ℕ → List ℕ → ℕ → State → List ℕ → Report × State × List ℕ
 settled true most input sheetBytes quota state buffer = (reported state buffer (measuring input sheetBytes quota) .0, state, buffer)
 settled false most input sheetBytes quota state buffer = numberedCopy most input sheetBytes quota state buffer
+
+-- a state with these ids, whose numbers are all 0
+abbrev pub atZero : List ℕ → ℕ → State
+atZero ids held = record { ids = ids; next = replicate (length ids) 0; held = held }
+
+-- measured from ids alone, as if copied from numbers that are all 0 into a buffer with room for any copy: the report, and the ids that are then held
+unfoldable pub measuredIds : ℕ → List ℕ → List ℕ → ℕ → List ℕ → ℕ → Report × List ℕ × ℕ
+measuredIds most input sheetBytes quota ids held =
+    let (r, after, buffer) = numberedCopy most input sheetBytes quota (atZero ids held) (replicate mostBytes 0) in
+    (r, after .ids, after .held)
 
 -- what of a report the single copy reports, and its buffer
 abbrev pub copyOf : Report → rules.Answer

@@ -13,9 +13,9 @@ ghost use Rattle.rules.specs.Packages.{packageTime};
 ghost use Rattle.rules.specs.Message.{isSimulated};
 ghost use Rattle.rules.specs.Items.{count};
 ghost use Rattle.sheet.specs.Rows.{someGrants};
-ghost use Rattle.numbered.specs.Quota.{someTwice, settled, shorter, mostIn};
+ghost use Rattle.numbered.specs.Quota.{badIds, someTwice, settled, measuredIds, shorter, mostIn};
 ghost use Rattle.numbered.specs.Parts.{sheetOf, messageBy, Sized, withPackage, withEntry, Placed, pieceAs, Stored, StoredRun, headBytes, Place, heldWith, numberAt, Ready, Delivered, Roomy, Wrote, Single, Seated, judgedAs, knownOf, roomOf, Most, refusedIds};
-ghost use Rattle.numbered.specs.Told.{progress, toldMeasure, measured, stateOf, told, Copied};
+ghost use Rattle.numbered.specs.Told.{progress, toldMeasure, measured, Counts, stateOf, told, toldIds, MeasuredIds, Copied};
 use message::Header;
 use message::MessageRead;
 use message::Package;
@@ -214,7 +214,83 @@ fn judged(p: Progress, seats: Seats, room: usize) -> Answer
     Answer::Done(p)
 }
 
+// What measuring comes to, and how many fresh ids it brought.
+struct Counted {
+    answer: Answer,
+    many: usize,
+}
+
+fn count_of(p: Progress, seats: Seats, room: usize) -> Counted
+    ensures { λ r. ⌜ r ≡ record { answer = judgedAs p seats room; many = seats .many } ⌝ }
+{
+    Counted {
+        answer: judged(p, seats, room),
+        many: seats.many,
+    }
+}
+
+fn refused_count(f: Refusal) -> Counted
+    ensures { λ r. ⌜ r .answer ≡ Answer.Refused f ⌝ }
+{
+    Counted {
+        answer: Answer::Refused(f),
+        many: 0,
+    }
+}
+
 // What the copy of the messages within the quota takes under these rows, where these ids are known and there is room for so many more; or why it is refused.
+// The ids that are not known are gathered in `fresh`.
+fn count_messages(
+    input: &[u8],
+    rows: [Row; 32],
+    n: usize,
+    quota: usize,
+    known: &[u32],
+    room: usize,
+    fresh: &mut [u32],
+) -> Counted
+    requires { ⌜ (length (now known) ≤ 65536) × Single (now known) × (64 < room → 1820 ≤ room) × (length (now fresh) ≡ 64) ⌝ }
+    ensures { λ r. ⌜ Counts (sheetOf rows n) (now (input .entry)) quota (now (known .entry)) room (now (fresh .exit)) r ⌝ }
+{
+    if 65536 < input.len() {
+        return refused_count(Refusal {
+            why: Why::Large,
+            place: 65536,
+        });
+    }
+    let mut seats = Seats { many: 0, over: 0 };
+    let mut totals = Totals {
+        bytes: 0,
+        messages: 0,
+        packages: 0,
+    };
+    let mut handled = 0;
+    let mut at = 0;
+    while at < input.len() {
+        if handled == quota {
+            return count_of(taken_with(handled, at, totals), seats, room);
+        }
+        let found = message_at(input, at);
+        match found {
+            MessageRead::Message(m) => {
+                let from = m.payload;
+                let next = m.next;
+                let h = m.header;
+                let size = measure_packages(&input[from..next], h, rows, n);
+                totals = with_entry(totals, size);
+                seats = seat(known, fresh, seats, room, h.id.0, size.packages, at);
+                handled += 1;
+                at = next;
+            }
+            MessageRead::Refused(f) => {
+                return refused_count(f);
+            }
+        }
+    }
+    count_of(taken_with(handled, at, totals), seats, room)
+}
+
+// The same, without the fresh ids.
 fn measure_messages(
     input: &[u8],
     rows: [Row; 32],
@@ -226,43 +302,9 @@ fn measure_messages(
     requires { ⌜ (length (now known) ≤ 65536) × Single (now known) × (64 < room → 1820 ≤ room) ⌝ }
     ensures { λ r. ⌜ toldMeasure r ≡ measured (sheetOf rows n) (now (input .entry)) quota (now (known .entry)) room ⌝ }
 {
-    if 65536 < input.len() {
-        return Answer::Refused(Refusal {
-            why: Why::Large,
-            place: 65536,
-        });
-    }
     let mut fresh = [0u32; 64];
-    let mut seats = Seats { many: 0, over: 0 };
-    let mut totals = Totals {
-        bytes: 0,
-        messages: 0,
-        packages: 0,
-    };
-    let mut handled = 0;
-    let mut at = 0;
-    while at < input.len() {
-        if handled == quota {
-            return judged(taken_with(handled, at, totals), seats, room);
-        }
-        let found = message_at(input, at);
-        match found {
-            MessageRead::Message(m) => {
-                let from = m.payload;
-                let next = m.next;
-                let h = m.header;
-                let size = measure_packages(&input[from..next], h, rows, n);
-                totals = with_entry(totals, size);
-                seats = seat(known, &mut fresh, seats, room, h.id.0, size.packages, at);
-                handled += 1;
-                at = next;
-            }
-            MessageRead::Refused(f) => {
-                return Answer::Refused(f);
-            }
-        }
-    }
-    judged(taken_with(handled, at, totals), seats, room)
+    let counted = count_messages(input, rows, n, quota, known, room, &mut fresh);
+    counted.answer
 }
 
 // Stores two words, one behind the other.
@@ -617,4 +659,76 @@ pub fn copy(
     let rows = read.rows;
     let n = read.count;
     copy_under(input, rows, n, quota, ids, next, held, most, out, measured)
+}
+
+// Stores the first n of `fresh` behind the first `held` of ids.
+fn put_behind(ids: &mut [u32], held: usize, fresh: &[u32], n: usize)
+    requires { ⌜ (held + n ≤ length (now ids)) × (held + n ≤ 65536) × (n ≤ length (now fresh)) ⌝ }
+    ensures { λ _. ⌜ now (ids .exit) ≡ sets (now (ids .entry)) held (take n (now (fresh .entry))) ⌝ }
+{
+    let mut i = 0;
+    while i < n {
+        ids[held + i] = fresh[i];
+        i += 1;
+    }
+}
+
+// Measured under the rows of a sheet, with ids that can be held.
+fn measure_under(
+    input: &[u8],
+    rows: [Row; 32],
+    n: usize,
+    quota: usize,
+    ids: &mut [u32],
+    held: usize,
+    most: usize,
+) -> Numbered
+    requires { ⌜ (badIds most (now ids) held ≡ false) × (most ≤ 64) × (most ≤ length (now ids)) ⌝ }
+    ensures { λ r. ⌜ MeasuredIds (sheetOf rows n) most (now (input .entry)) quota (now (ids .entry)) held (toldIds r (now (ids .exit))) ⌝ }
+{
+    let mut fresh = [0u32; 64];
+    let counted = count_messages(input, rows, n, quota, &ids[..held], most - held, &mut fresh);
+    let many = counted.many;
+    let answer = counted.answer;
+    match answer {
+        Answer::Refused(f) => Numbered {
+            answer: Answer::Refused(f),
+            held,
+        },
+        Answer::Done(p) => {
+            put_behind(ids, held, &fresh, many);
+            Numbered {
+                answer: Answer::Done(p),
+                held: held + many,
+            }
+        }
+    }
+}
+
+// What a copy of the first `quota` messages reports where there is room for it, with the ids that are then held, 64 at most. Nothing is written, and
+// no sequence number counted.
+pub fn measure(input: &[u8], sheet: &[u8], quota: usize, ids: &mut [u32], held: usize) -> Numbered
+    ensures { λ r. ⌜ toldIds r (now (ids .exit)) ≡ measuredIds (shorter (length (now (ids .entry))) 64) (now (input .entry)) (now (sheet .entry)) quota (now (ids .entry)) held ⌝ }
+{
+    let most = shorter(ids.len(), 64);
+    if bad_ids(ids, held, most, false) {
+        return Numbered {
+            answer: Answer::Refused(Refusal {
+                why: Why::Ids,
+                place: 0,
+            }),
+            held,
+        };
+    }
+    let read = read_sheet(sheet);
+    let answer = read.answer;
+    if let SheetAnswer::Refused(f) = answer {
+        return Numbered {
+            answer: Answer::Refused(f),
+            held,
+        };
+    }
+    let rows = read.rows;
+    let n = read.count;
+    measure_under(input, rows, n, quota, ids, held, most)
 }

@@ -1,10 +1,9 @@
 // release_long RECORDING SHEET: writes the copy of a recording of any length to standard output, or the line `refused NUMBER PLACE`. It goes over the
-// recording twice, window by window, in steps: the first time nothing is written, and the second time only if no step was refused. At the end a line on
+// recording twice, window by window, in steps: the first time they are only measured, and the second time written, if none was refused. At the end a line on
 // standard error says what was done. Where a third argument says the recording's size, a line on standard error tells how far it is.
 ghost use mathlib.Core.Path.{_≡_};
 ghost use Prim.Native.Nat.{_+_, _≤_};
 ghost use lib.ListN.{length};
-ghost use Rattle.step.specs.Claims.{StateFits};
 ghost use Rattle.step.specs.Told.{stateIn};
 ghost use Rattle.release_long.specs.Keeps.{fresh, steppedOn, turnedOn, passedOn};
 use files::Filled;
@@ -32,12 +31,15 @@ fn no_ids() -> State
     }
 }
 
-// A step over whole messages: all of them are taken, since the quota is above their bytes.
-fn step_over(part: &[u8], sheet: &[u8], state: State, out: &mut [u8]) -> Stepped
-    requires { ⌜ StateFits (stateIn state) × (length (now part) ≤ 65536) ⌝ }
-    ensures { λ r. ⌜ steppedOn (now (sheet .entry)) (now (part .entry)) (stateIn state) r ⌝ }
+// A step over whole messages, measured alone where it does not write: all of them are taken, since the quota is above their bytes.
+fn step_over(part: &[u8], sheet: &[u8], state: State, writes: bool, out: &mut [u8]) -> Stepped
+    requires { ⌜ length (now part) ≤ 65536 ⌝ }
+    ensures { λ r. ⌜ steppedOn (now (sheet .entry)) writes (now (part .entry)) (stateIn state) r ⌝ }
 {
-    step::step(part, sheet, 65537, state, out)
+    if writes {
+        return step::step(part, sheet, 65537, state, out);
+    }
+    step::measure(part, sheet, 65537, state)
 }
 
 // What a window comes to: so many of its bytes are taken, with what that wrote; or it is refused; or the files fail.
@@ -55,11 +57,11 @@ struct Turned {
 }
 
 // Whole messages of a window, in a step.
-fn take_part(part: &[u8], sheet: &[u8], state: State, out: &mut [u8]) -> Turned
-    requires { ⌜ StateFits (stateIn state) × (length (now part) ≤ 65536) ⌝ }
-    ensures { λ r. ⌜ turnedOn (now (sheet .entry)) (stateIn state) r ⌝ }
+fn take_part(part: &[u8], sheet: &[u8], state: State, writes: bool, out: &mut [u8]) -> Turned
+    requires { ⌜ length (now part) ≤ 65536 ⌝ }
+    ensures { λ r. ⌜ turnedOn (now (sheet .entry)) writes (stateIn state) r ⌝ }
 {
-    let stepped = step_over(part, sheet, state, out);
+    let stepped = step_over(part, sheet, state, writes, out);
     let after = stepped.state;
     let answer = stepped.answer;
     match answer {
@@ -75,9 +77,16 @@ fn take_part(part: &[u8], sheet: &[u8], state: State, out: &mut [u8]) -> Turned
 }
 
 // What of a window is handed over is taken.
-fn take_window(window: &[u8], goes_on: bool, sheet: &[u8], state: State, out: &mut [u8]) -> Turned
-    requires { ⌜ StateFits (stateIn state) × (length (now window) ≤ 65536) ⌝ }
-    ensures { λ r. ⌜ turnedOn (now (sheet .entry)) (stateIn state) r ⌝ }
+fn hand_window(
+    window: &[u8],
+    goes_on: bool,
+    sheet: &[u8],
+    state: State,
+    writes: bool,
+    out: &mut [u8],
+) -> Turned
+    requires { ⌜ length (now window) ≤ 65536 ⌝ }
+    ensures { λ r. ⌜ turnedOn (now (sheet .entry)) writes (stateIn state) r ⌝ }
 {
     let handed = windows::hand_over(window, goes_on);
     match handed {
@@ -85,8 +94,40 @@ fn take_window(window: &[u8], goes_on: bool, sheet: &[u8], state: State, out: &m
             turn: Turn::Refused(f),
             state,
         },
-        Handed::Bytes(n) => take_part(&window[..n], sheet, state, out),
+        Handed::Bytes(n) => take_part(&window[..n], sheet, state, writes, out),
     }
+}
+
+fn is_taken(turn: Turn) -> bool {
+    match turn {
+        Turn::Taken(_, _) => true,
+        _ => false,
+    }
+}
+
+// Where the recording goes on, what is whole by the messages' lengths is taken, if the step takes it: then no message is checked twice. Otherwise all is
+// checked first, so that a refusal is that of the window's first bad message.
+fn take_window(
+    window: &[u8],
+    goes_on: bool,
+    sheet: &[u8],
+    state: State,
+    writes: bool,
+    out: &mut [u8],
+) -> Turned
+    requires { ⌜ length (now window) ≤ 65536 ⌝ }
+    ensures { λ r. ⌜ turnedOn (now (sheet .entry)) writes (stateIn state) r ⌝ }
+{
+    if !goes_on {
+        return hand_window(window, false, sheet, state, writes, out);
+    }
+    let n = windows::whole_bytes(window);
+    let taken = take_part(&window[..n], sheet, state, writes, out);
+    let turn = taken.turn;
+    if 0 < n && is_taken(turn) {
+        return taken;
+    }
+    hand_window(window, true, sheet, state, writes, out)
 }
 
 // Writes the first n bytes of a buffer, and says whether all of them were.
@@ -106,20 +147,35 @@ fn write_turn(turn: Turn, out: &[u8]) -> bool {
 }
 
 // The window that was read into a buffer of one byte more, of which n bytes are filled: where that byte is there, the recording goes on behind the window.
-fn take_read(window: &[u8], n: usize, sheet: &[u8], state: State, out: &mut [u8]) -> Turned
-    requires { ⌜ StateFits (stateIn state) × (n ≤ length (now window)) ⌝ }
-    ensures { λ r. ⌜ turnedOn (now (sheet .entry)) (stateIn state) r ⌝ }
+fn take_read(
+    window: &[u8],
+    n: usize,
+    sheet: &[u8],
+    state: State,
+    writes: bool,
+    out: &mut [u8],
+) -> Turned
+    requires { ⌜ n ≤ length (now window) ⌝ }
+    ensures { λ r. ⌜ turnedOn (now (sheet .entry)) writes (stateIn state) r ⌝ }
 {
     if n <= 65536 {
-        return take_window(&window[..n], false, sheet, state, out);
+        return take_window(&window[..n], false, sheet, state, writes, out);
     }
-    take_window(&window[..65536], true, sheet, state, out)
+    take_window(&window[..65536], true, sheet, state, writes, out)
 }
 
-// The turn that begins at a place of the recording: what the window before it kept back is read again.
-fn take_turn(recording: i32, place: u64, sheet: &[u8], state: State, writes: bool) -> Turned
-    requires { ⌜ StateFits (stateIn state) × (place ≤ 65536000000000000) ⌝ }
-    ensures { λ r. ⌜ turnedOn (now (sheet .entry)) (stateIn state) r ⌝ }
+// The turn that begins at a place of the recording, in buffers that are lent: what the window before it kept back is read again.
+fn take_turn(
+    recording: i32,
+    place: u64,
+    sheet: &[u8],
+    state: State,
+    writes: bool,
+    window: &mut [u8],
+    out: &mut [u8],
+) -> Turned
+    requires { ⌜ place ≤ 65536000000000000 ⌝ }
+    ensures { λ r. ⌜ turnedOn (now (sheet .entry)) writes (stateIn state) r ⌝ }
 {
     let unread = Turned {
         turn: Turn::Unread,
@@ -128,15 +184,13 @@ fn take_turn(recording: i32, place: u64, sheet: &[u8], state: State, writes: boo
     if libc::lseek(recording, place as i64, SEEK_SET) < 0 {
         return unread;
     }
-    let mut window = [0u8; 65537];
-    let got = files::fill(recording, &mut window);
+    let got = files::fill(recording, window);
     let Filled::Bytes(n) = got else {
         return unread;
     };
-    let mut out = [0u8; 65536];
-    let turned = take_read(&window, n, sheet, state, &mut out);
+    let turned = take_read(window, n, sheet, state, writes, out);
     let taken = turned.turn;
-    if writes && !write_turn(taken, &out) {
+    if writes && !write_turn(taken, out) {
         return Turned {
             turn: Turn::Unwritten,
             state,
@@ -235,6 +289,8 @@ fn end_line(t: Tells) {
 fn go_over(recording: i32, sheet: &[u8], writes: bool, tells: Tells) -> Pass
     ensures { λ r. ⌜ passedOn (now (sheet .entry)) r ⌝ }
 {
+    let mut window = [0u8; 65537];
+    let mut out = [0u8; 65536];
     let mut state = no_ids();
     let mut done = Done {
         place: 0,
@@ -245,7 +301,15 @@ fn go_over(recording: i32, sheet: &[u8], writes: bool, tells: Tells) -> Pass
     };
     let mut turns: u64 = 1_000_000_000_000;
     while 0 < turns {
-        let turned = take_turn(recording, done.place, sheet, state, writes);
+        let turned = take_turn(
+            recording,
+            done.place,
+            sheet,
+            state,
+            writes,
+            &mut window,
+            &mut out,
+        );
         let taken = turned.turn;
         match taken {
             Turn::Taken(n, p) => {

@@ -15,11 +15,12 @@ use Rattle.numbered.specs.Quota.{delivering, numberedCopy}
 use Rattle.numbered.proofs.Numbers.{next-after, numbered-injective}
 use Rattle.numbered.proofs.First.{first-copies}
 use Rattle.step.specs.Step.{step, output}
-use Rattle.step.specs.Claims.{StateFits, releasedOfAny, StepKeeps, StepHandles, StepNotLonger, QuotaZero, NumbersTrue, StepIds, StepRoom, FirstStepCopies, Run, RunPasses, RunCopies, RunAsOne, RunRead, SameOutputs, DifferentOutputs, WindowCut, RefusalFinal}
+use Rattle.step.specs.Claims.{StateFits, releasedOfAny, StepKeeps, StepHandles, StepNotLonger, QuotaZero, NumbersTrue, StepIds, StepRoom, FirstStepCopies, MeasuredStep, Run, RunPasses, RunCopies, RunAsOne, RunRead, SameOutputs, DifferentOutputs, WindowCut, RefusalFinal}
 use Rattle.step.proofs.States.{running-low}
 use Rattle.step.proofs.Steps.{done, kept-state, unused-reported, careful-reported, handles}
 use Rattle.step.proofs.Ids.{ids-exactly, room-refused, none-taken}
 use Rattle.step.proofs.Runs as Runs
+use Rattle.step.proofs.Measured.{measured-room, measured-long}
 use Rattle.step.proofs.Windows.{cut-window}
 use Rattle.rules.proofs.Final.{final}
 use Rattle.step.specs.Table.{Table}
@@ -53,6 +54,12 @@ step-room input sheetBytes quota state buffer rows taken fits b v l t = room-ref
 
 pub first-step-copies : FirstStepCopies
 first-step-copies input sheet quota state buffer none above not-ids = first-copies 64 input sheet quota state buffer none above not-ids
+
+pub measured-step : MeasuredStep
+measured-step = record {
+  with-room = λ input sheet quota state twin buffer fits same bytes h. measured-room input sheet quota state buffer fits bytes h twin same;
+  long-buffer = λ input sheet quota state twin buffer fits same bytes l. measured-long input sheet quota state buffer fits bytes l twin same;
+}
 
 pub table-holds : Table
 table-holds = table

@@ -3,6 +3,7 @@ pub mod States
 pub mod Ids
 pub mod Steps
 pub mod Runs
+pub mod Measured
 pub mod Table
 pub mod Windows
 pub mod Claims

@@ -15,7 +15,7 @@ use Rattle.rules.specs.Copy.{Entry, released, packagesIn, copy}
 use Rattle.rules.specs.Claims.{Careful}
 use Rattle.numbered.specs.Numbering.{Running, nextNumber, numbersAfter, numberedMessages, numberedBytes, State, runningIn}
 use Rattle.numbered.specs.Quota.{mostIds, badState, Taken, takenFrom, messageOf, bytesTaken, Report, asCopy}
-use Rattle.step.specs.Step.{step, output, consumed}
+use Rattle.step.specs.Step.{step, measuredStep, output, consumed}
 
 -- the numbers of a state fit their places: whatever a caller can hand over
 pub record StateFits (state : State) : Type 0 where
@@ -111,6 +111,22 @@ StepRoom = (input sheetBytes : List ℕ) (quota : ℕ) (state : State) (buffer :
 abbrev pub FirstStepCopies : Type 0
 FirstStepCopies = (input sheet : List ℕ) (quota : ℕ) (state : State) (buffer : List ℕ) → state .held ≡ 0 → length input ≤ quota
     → (step input sheet quota state buffer .0 .number ≡ IDS → ⊥) → asCopy (step input sheet quota state buffer) ≡ copy input sheet buffer
+
+-- ---- One step measured alone.
+
+-- A step from any numbers of the same ids reports the same, refusals included, and holds the same ids after it: where it is not refused for room,
+-- and always where its buffer is as long as the input. So whoever measures a recording step by step learns what the steps will answer.
+pub record SameIds (a b : State) : Type 0 where
+  pub ids : a .ids ≡ b .ids
+  pub held : a .held ≡ b .held
+
+pub record MeasuredStep : Type 0 where
+  pub with-room : (input sheet : List ℕ) (quota : ℕ) (state twin : State) (buffer : List ℕ) → StateFits state → SameIds state twin → Bytes input
+      → (step input sheet quota state buffer .0 .number ≡ ROOM → ⊥)
+      → (step input sheet quota state buffer .0 ≡ measuredStep input sheet quota twin .0) × SameIds (step input sheet quota state buffer .1) (measuredStep input sheet quota twin .1)
+  pub long-buffer : (input sheet : List ℕ) (quota : ℕ) (state twin : State) (buffer : List ℕ) → StateFits state → SameIds state twin → Bytes input
+      → length input ≤ length buffer
+      → (step input sheet quota state buffer .0 ≡ measuredStep input sheet quota twin .0) × SameIds (step input sheet quota state buffer .1) (measuredStep input sheet quota twin .1)
 
 -- ---- A run of steps under one sheet with no refusal: its first and its last state, all that was consumed, and the joined outputs.
 

@@ -14,3 +14,7 @@ stateIn s = record { ids = s .ids; next = s .next; held = s .held }
 -- the report, with the state and the buffer after it
 abbrev pub told : Stepped → List ℕ → Report × rule.State × List ℕ
 told r s = (report (r .answer), stateIn (r .state), s)
+
+-- without a buffer
+abbrev pub toldMeasured : Stepped → Report × rule.State
+toldMeasured r = (report (r .answer), stateIn (r .state))

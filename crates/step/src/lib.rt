@@ -1,8 +1,8 @@
 // Long recordings by quota: a recording of any length, copied step by step, a quota of messages at a time, numbered on from a state. A step is
-// `numbered::copy` with the 64 ids that a state holds.
+// `numbered::copy` with the 64 ids that a state holds, and measured alone `numbered::measure`.
 ghost use mathlib.Core.Path.{_≡_};
-ghost use Rattle.step.specs.Step.{step};
-ghost use Rattle.step.specs.Told.{stateIn, told};
+ghost use Rattle.step.specs.Step.{step, measuredStep};
+ghost use Rattle.step.specs.Told.{stateIn, told, toldMeasured};
 use numbered::Answer;
 use numbered::copy;
 
@@ -37,6 +37,22 @@ pub fn step(input: &[u8], sheet: &[u8], quota: usize, state: State, out: &mut [u
     );
     let held = done.held;
     let answer = done.answer;
+    let after = State { ids, next, held };
+    Stepped {
+        answer,
+        state: after,
+    }
+}
+
+// What a step reports where it has room, measured alone, and the ids that are then held: no number is counted, and those of the state stay as they were.
+pub fn measure(input: &[u8], sheet: &[u8], quota: usize, state: State) -> Stepped
+    ensures { λ r. ⌜ toldMeasured r ≡ measuredStep (now (input .entry)) (now (sheet .entry)) quota (stateIn state) ⌝ }
+{
+    let mut ids = state.ids;
+    let next = state.next;
+    let counted = numbered::measure(input, sheet, quota, &mut ids, state.held);
+    let held = counted.held;
+    let answer = counted.answer;
     let after = State { ids, next, held };
     Stepped {
         answer,

@@ -3,6 +3,7 @@ pub mod Shifted
 pub mod Stops
 pub mod Windows
 pub mod Worked
+pub mod Lengths
 pub mod Claims
 pub mod Handing
 pub mod Same

@@ -6,11 +6,11 @@ use Rattle.rules.specs.Items.{items}
 use Rattle.rules.specs.Options.{lengthAllowed, optionSize, optionFits, isSecond, optionRunFrom, countSaidFrom}
 use Rattle.rules.specs.Packages.{packageFits, piece, packageOf}
 use Rattle.rules.specs.Message.{head, checksOneToSix, optionRunLength, checksEightAndNine, checksOneToNine, checksOneToTen, everyCheck, recordOf, message, recording}
-use Rattle.windows.specs.Window.{endingBefore, handedBy, handedOver}
+use Rattle.windows.specs.Window.{endingBefore, handedBy, handedOver, extent, endBy, wholeBytes}
 use Rattle.windows.specs.Worked.{Worked}
 
 pub worked : Worked
-unfolding _>>=_ _>>_ refuse _∷>_ half word items lengthAllowed optionSize optionFits isSecond optionRunFrom countSaidFrom packageFits piece packageOf head checksOneToSix optionRunLength checksEightAndNine checksOneToNine checksOneToTen everyCheck recordOf message recording endingBefore handedBy handedOver
+unfolding _>>=_ _>>_ refuse _∷>_ half word items lengthAllowed optionSize optionFits isSecond optionRunFrom countSaidFrom packageFits piece packageOf head checksOneToSix optionRunLength checksEightAndNine checksOneToNine checksOneToTen everyCheck recordOf message recording endingBefore handedBy handedOver extent endBy wholeBytes
 worked = record {
   whole = refl;
   empty = refl;
@@ -20,4 +20,9 @@ worked = record {
   short-at-the-end = refl;
   cut-at-the-end = refl;
   damaged = refl;
+  whole-lengths = refl;
+  cut-lengths = refl;
+  short-lengths = refl;
+  low-length = refl;
+  any-version = refl;
 }

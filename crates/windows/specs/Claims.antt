@@ -8,8 +8,8 @@ use lib.ListN.{length, take, drop}
 use Rattle.rules.specs.Outcome.{good, bad, SHORT, CUT, LARGE}
 use Rattle.rules.specs.Bytes.{join}
 use Rattle.rules.specs.Items.{items}
-use Rattle.rules.specs.Message.{mostBytes, Message, message}
-use Rattle.windows.specs.Window.{handedOver}
+use Rattle.rules.specs.Message.{mostBytes, headerBytes, head, Message, message}
+use Rattle.windows.specs.Window.{handedOver, wholeBytes}
 
 -- ---- One window.
 
@@ -43,6 +43,11 @@ pub record LargeExactly : Type 0 where
   pub only : (goesOn : Bool) (window : List ℕ) (p : ℕ) → length window ≤ mostBytes → handedOver goesOn window ≡ bad LARGE p → FirstCut goesOn window × (p ≡ 0)
   pub always : (goesOn : Bool) (window : List ℕ) → FirstCut goesOn window → handedOver goesOn window ≡ bad LARGE 0
   pub longer : (goesOn : Bool) (window behind : List ℕ) (p : ℕ) (m : Message) (n : ℕ) → FirstCut goesOn window → message p (window ++ behind) ≡ good (m, n) → mostBytes < n
+
+-- Where messages that pass are followed by less than a header, or by a message whose end is not there, those that pass are the whole messages by their lengths.
+abbrev pub WholeBytes : Type 0
+WholeBytes = (before behind : List ℕ) (ms : List Message) → items message zero zero before ≡ good ms → (length behind < headerBytes) ⊎ (length behind < head behind .size)
+    → wholeBytes (before ++ behind) ≡ length before
 
 -- ---- A recording, window by window: what each hands over. What a window keeps back begins the next, in front of what the recording has behind.
 

@@ -2,8 +2,10 @@
 // of a message on; the message that its end cuts is kept back, and begins the next window.
 ghost use mathlib.Core.Path.{_≡_};
 ghost use Rattle.refusal.specs.Numbers.{numberOf};
-ghost use Rattle.windows.specs.Window.{isCut, endingBefore, handedOver};
-ghost use Rattle.windows.specs.Told.{toldHanded};
+ghost use Prim.Native.Nat.{_≤_};
+ghost use lib.ListN.{length};
+ghost use Rattle.windows.specs.Window.{isCut, endingBefore, handedOver, wholeBytes};
+ghost use Rattle.windows.specs.Told.{toldHanded, Extends};
 use message::Checked;
 use message::check;
 use refusal::Refusal;
@@ -60,4 +62,36 @@ pub fn hand_over(window: &[u8], goes_on: bool) -> Handed
             Handed::Refused(f)
         }
     }
+}
+
+// How many bytes the message at the start of s has by its length alone; 0 where it is not whole.
+fn extent(s: &[u8]) -> usize
+    ensures { λ r. ⌜ Extends (now (s .entry)) r ⌝ }
+{
+    if s.len() < 24 {
+        return 0;
+    }
+    let size = wire::word_at(s, 12) as usize;
+    if size < 24 {
+        return 0;
+    }
+    if s.len() < size {
+        return 0;
+    }
+    size
+}
+
+// How many bytes of a window are whole messages by their lengths alone: nothing else of a message is looked at.
+pub fn whole_bytes(window: &[u8]) -> usize
+    ensures { λ r. ⌜ (r ≡ wholeBytes (now (window .entry))) × (r ≤ length (now (window .entry))) ⌝ }
+{
+    let mut at = 0;
+    while at < window.len() {
+        let n = extent(&window[at..]);
+        if n == 0 {
+            return at;
+        }
+        at += n;
+    }
+    at
 }

@@ -52,6 +52,20 @@ enum Shape {
     Small,
 }
 
+/// How many rows a sheet has.
+const ROWS: [usize; 5] = [1, 4, 5, 16, 32];
+/// Message ids from here on are in no recording.
+const ELSEWHERE: u32 = 1_000;
+
+/// What the rows of a sheet that do not grant are for.
+#[derive(Clone, Copy)]
+enum Others {
+    /// Other packages of the same messages.
+    Packages,
+    /// The same packages of other messages, a message id for each row.
+    Messages,
+}
+
 /// How the copy's recording and sheet are made; half of the packages are granted.
 #[derive(Clone, Copy)]
 enum Kind {
@@ -114,6 +128,17 @@ fn main() -> ExitCode {
             let lines = SIZES.map(|size| time_copy_write(shape, kind, size, repetitions));
             lines.iter().for_each(show);
             copies.push(lines);
+        }
+    }
+    println!("\ncopies under more rows; one of them grants");
+    for shape in SHAPES {
+        for others in [Others::Packages, Others::Messages] {
+            for rows in ROWS {
+                let last = if rows == 1 { &[false][..] } else { &[false, true][..] };
+                for &last in last {
+                    show(&time_copy_rows(shape, rows, last, others, repetitions));
+                }
+            }
         }
     }
     println!("\ncost per byte at 64 KiB over that at 4 KiB");
@@ -512,19 +537,61 @@ fn second_write(recording: &[u8], sheet: &[u8], out: &mut [u8]) {
 }
 
 fn time_copy_write(shape: Shape, kind: Kind, size: usize, repetitions: usize) -> Line {
-    let recording = recording(shape, kind, size);
-    let sheet = sheet(kind);
+    let name = format!("copy write, {}, {}", shape_name(shape), kind_name(kind));
+    time_copy_of(name, &recording(shape, kind, size), &sheet(kind), repetitions)
+}
+
+/// A sheet of so many rows, of which the first or the last grants the packages
+/// of one id.
+fn sheet_of(rows: usize, last: bool, others: Others) -> Vec<u8> {
+    let granting = Row {
+        message_last: u32::MAX,
+        package_first: GRANTED,
+        package_last: GRANTED,
+        end_seconds: 200,
+        ..Row::default()
+    };
+    let other = |number: u32| match others {
+        Others::Packages => {
+            Row { package_first: 100 + number, package_last: 100 + number, ..granting }
+        }
+        Others::Messages => {
+            Row { message_first: ELSEWHERE + number, message_last: ELSEWHERE + number, ..granting }
+        }
+    };
+    let mut list: Vec<Row> = (1..rows as u32).map(other).collect();
+    list.insert(if last { list.len() } else { 0 }, granting);
+    pack_sheet(&list)
+}
+
+fn time_copy_rows(
+    shape: Shape,
+    rows: usize,
+    last: bool,
+    others: Others,
+    repetitions: usize,
+) -> Line {
+    let place = if last { "last" } else { "first" };
+    let of = match others {
+        Others::Packages => "packages",
+        Others::Messages => "messages",
+    };
+    let name = format!("{}, {place} of {rows}, by {of}", shape_name(shape));
+    let recording = recording(shape, Kind::ManyIds, 65_536);
+    time_copy_of(name, &recording, &sheet_of(rows, last, others), repetitions)
+}
+
+fn time_copy_of(name: String, recording: &[u8], sheet: &[u8], repetitions: usize) -> Line {
     let length = recording.len();
     let mut outs = [vec![0; length], vec![0; length], vec![0; length]];
     let [export_out, second_out, target] = &mut outs;
     let mut export = || {
-        export_write(&recording, &sheet, export_out);
+        export_write(recording, sheet, export_out);
     };
-    let mut second = || second_write(&recording, &sheet, second_out);
-    let mut plain = || memcpy(&recording, target);
+    let mut second = || second_write(recording, sheet, second_out);
+    let mut plain = || memcpy(recording, target);
     let medians = medians(repetitions, [&mut export, &mut second, &mut plain]);
     assert!(outs[0] == outs[1], "the two copies differ");
-    let name = format!("copy write, {}, {}", shape_name(shape), kind_name(kind));
     Line { name, bytes: length, medians }
 }
 

@@ -5,7 +5,7 @@ use native.Mathlib.Omega.{arith}
 use borrow.Author.Needs.{needs}
 use lib.ListN.{length, take}
 use lib.Seq.{sets, take-all}
-use Rattle.hibernaxo.proofs.States.{put-next}
+use Rattle.numbered.proofs.Stores.{put-next}
 use Rattle.hibernaxo.proofs.put_part.Statement.{statement}
 use Rattle.hibernaxo.proofs.put_part.Tie as tie
 

@@ -1,21 +1,21 @@
 -- `release_long::go_over` meets its contract: what is done so far is a run of steps from a state in which no id is held.
-use Prim.Native.Nat.{_+_, _*_, _≤_}
-use mathlib.Core.Path.{sym, subst}
+use Prim.Native.Nat.{ℕ, _+_, _*_, _≤_}
+use mathlib.Core.Path.{_≡_, sym, subst}
 use native.Mathlib.Omega.{arith}
+use lib.ListN.{length, length-replicate}
 use Rattle.numbered.specs.Numbering.{State}
-use Rattle.step.specs.Claims.{StateFits}
 use Rattle.step.specs.Told.{stateIn}
-use Rattle.release_long.specs.Keeps.{fresh, Steps}
+use Rattle.release_long.specs.Keeps.{fresh, Led}
 use borrow.Author.Needs.{needs}
-use Rattle.release_long.proofs.Keeping.{fresh-fits, steps-none, steps-append, taken, whole-on, passed-refused, passed-unread, passed-unwritten}
+use Rattle.release_long.proofs.Keeping.{fresh-fits, led-none, led-on, taken, whole-on, passed-refused, passed-unread, passed-unwritten}
 use Rattle.release_long.proofs.go_over.Statement.{statement}
 use Rattle.release_long.proofs.go_over.Tie as tie
 
 abbrev Inv-loop : tie.InvT-loop
-Inv-loop recording sheet writes tells state₀ done₀ turns₀ state done turns = (turns ≤ 1000000000000) × (done .place + turns * 65536 ≤ 65536000000000000) × StateFits (stateIn state) × Steps sheet fresh (stateIn state) (done .place)
+Inv-loop recording sheet writes tells window₀ out₀ state₀ done₀ turns₀ window out state done turns = (turns ≤ 1000000000000) × (done .place + turns * 65536 ≤ 65536000000000000) × (length window ≡ 65537) × (length out ≡ 65536) × Led sheet writes fresh (stateIn state) (done .place)
 
 abbrev μ-loop : tie.MeasureT-loop
-μ-loop recording sheet writes tells state₀ done₀ turns₀ state done turns = turns
+μ-loop recording sheet writes tells window₀ out₀ state₀ done₀ turns₀ window out state done turns = turns
 
 no-ids-requires : tie.Need-no-ids-requires Inv-loop μ-loop
 no-ids-requires c κs = search needs
@@ -23,25 +23,32 @@ no-ids-requires c κs = search needs
 loop-holds : tie.Need-loop-holds Inv-loop μ-loop
 loop-holds c =
     let e = sym (c .no-ids .ensures) in
-    (omega arith, omega arith, subst StateFits e fresh-fits, subst (λ (s : State). Steps (c .before .before .args .sheet .now) fresh s 0) e (steps-none _ _))
+    (omega arith, omega arith, length-replicate {A = ℕ} 65537 0, length-replicate {A = ℕ} 65536 0, subst (λ (s : State). Led (c .before .before .args .sheet .now) (c .before .before .args .writes) fresh s 0) e (led-none _ _ fresh fresh-fits))
+
+slice-aggregate-take-turn : tie.Need-slice-aggregate-take-turn Inv-loop μ-loop
+slice-aggregate-take-turn c = sym (c .before .before .loop .inv .2)
+
+slice-aggregate-take-turn-2 : tie.Need-slice-aggregate-take-turn-2 Inv-loop μ-loop
+slice-aggregate-take-turn-2 c = sym (c .before .before .before .loop .inv .3)
 
 take-turn-requires : tie.Need-take-turn-requires Inv-loop μ-loop
 take-turn-requires c κs =
-    let l = c .before .loop .inv in
-    (l .2, omega (arith, l .1))
+    let l = c .before .before .before .loop .inv in
+    omega (arith, l .1)
 
 enum-known-taken : tie.Need-enum-known-taken Inv-loop μ-loop
 enum-known-taken c = search needs
 
 returns : tie.Need-returns Inv-loop μ-loop
 returns c =
-    let l = c .before .before .before .before .before .before .loop in
-    whole-on (c .before .before .before .before .before .before .before .before .before .args .sheet .now) (l .done) (stateIn (l .state)) (l .inv .3)
+    let l = c .before .before .before .before .before .before .before .before .before .before .loop in
+    let a = c .before .before .before .before .before .before .before .before .before .before .before .before .before .args in
+    whole-on (a .sheet .now) (a .writes) (l .done) (stateIn (l .state)) (l .inv .4)
 
 with-part-requires : tie.Need-with-part-requires Inv-loop μ-loop
 with-part-requires c κs =
-    let l = c .before .before .before .before .before .before .before .loop in
-    let w = taken _ _ _ _ _ (c .before .before .before .taken .given .1) (c .before .before .before .before .before .take-turn .ensures) in
+    let l = c .before .before .before .before .before .before .before .before .before .before .before .loop in
+    let w = taken _ _ _ _ _ _ (c .before .before .before .taken .given .1) (c .before .before .before .before .before .before .before .take-turn .ensures) in
     (omega (arith, l .inv .1), w .few)
 
 tell-requires : tie.Need-tell-requires Inv-loop μ-loop
@@ -76,10 +83,11 @@ loop-less c = omega arith
 
 loop-again : tie.Need-loop-again Inv-loop μ-loop
 loop-again c =
-    let l = c .before .before .before .before .before .before .before .before .before .loop in
-    let w = taken _ _ _ _ _ (c .before .before .before .before .before .taken .given .1) (c .before .before .before .before .before .before .before .take-turn .ensures) in
+    let l = c .before .before .before .before .before .before .before .before .before .before .before .before .before .loop in
+    let w = taken _ _ _ _ _ _ (c .before .before .before .before .before .taken .given .1) (c .before .before .before .before .before .before .before .before .before .take-turn .ensures) in
     let p = c .before .with-part .ensures in
-    (omega arith, omega (arith, p, w .few, l .inv .1), w .fits, steps-append (c .before .before .before .before .before .before .before .before .before .before .before .before .args .sheet .now) fresh _ _ (l .done .place) _ _ (sym p) (l .inv .3) (w .steps))
+    let a = c .before .before .before .before .before .before .before .before .before .before .before .before .before .before .before .before .args in
+    (omega arith, omega (arith, p, w .few, l .inv .1), search needs, search needs, led-on (a .sheet .now) (a .writes) fresh _ _ (l .done .place) _ _ (sym p) (l .inv .4) w)
 
 returns-5 : tie.Need-returns-5 Inv-loop μ-loop
 returns-5 c = passed-unread _
@@ -92,6 +100,8 @@ go-over-spec =
     μ-loop
     no-ids-requires
     loop-holds
+    slice-aggregate-take-turn
+    slice-aggregate-take-turn-2
     take-turn-requires
     enum-known-taken
     returns

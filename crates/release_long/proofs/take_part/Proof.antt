@@ -19,13 +19,13 @@ same-length c = search needs
 returns : tie.Need-returns
 returns c =
     let a = c .before .before .before .before .before .before .before .before .before .before .before .args in
-    taken-on (a .sheet .now) (a .part .now) _ (c .before .before .before .before .before .before .step-over .result) _ (c .before .answer .given .1) (c .before .before .before .before .before .before .step-over .ensures)
+    taken-on (a .sheet .now) (a .part .now) (a .writes) _ (c .before .before .before .before .before .before .step-over .result) _ (c .before .answer .given .1) (c .before .before .before .before .before .before .step-over .ensures)
 
 same-length-2 : tie.Need-same-length-2
 same-length-2 c = search needs
 
 returns-2 : tie.Need-returns-2
-returns-2 c = refused-on _ _ _ _
+returns-2 c = refused-on _ _ _ _ _
 
 pub take-part-spec : {M : Type 1} → statement M
 take-part-spec =

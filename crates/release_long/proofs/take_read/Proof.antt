@@ -7,12 +7,12 @@ use Rattle.release_long.proofs.take_read.Statement.{statement}
 use Rattle.release_long.proofs.take_read.Tie as tie
 
 slice-aggregate-take-window : tie.Need-slice-aggregate-take-window
-slice-aggregate-take-window c = let s = c .before .before .before .before .before in sym (length-take-le _ _ (s .pre .1))
+slice-aggregate-take-window c = sym (length-take-le _ _ (c .before .before .before .before .before .pre))
 
 take-window-requires : tie.Need-take-window-requires
 take-window-requires c κs =
     let s = c .before .before .before .before .before .before in
-    (s .pre .0, omega (arith, length-take-le (s .args .n) (s .args .window .now) (s .pre .1), c .before .before .if1 .taken))
+    omega (arith, length-take-le (s .args .n) (s .args .window .now) (s .pre), c .before .before .if1 .taken)
 
 same-length : tie.Need-same-length
 same-length c = search needs
@@ -23,12 +23,12 @@ returns c = search needs
 slice-aggregate-take-window-2 : tie.Need-slice-aggregate-take-window-2
 slice-aggregate-take-window-2 c =
     let s = c .before .before .before .before .before in
-    sym (length-take-le 65536 (s .args .window .now) (omega (arith, s .pre .1, c .before .if1 .left)))
+    sym (length-take-le 65536 (s .args .window .now) (omega (arith, s .pre, c .before .if1 .left)))
 
 take-window-requires-2 : tie.Need-take-window-requires-2
 take-window-requires-2 c κs =
     let s = c .before .before .before .before .before .before in
-    (s .pre .0, omega (arith, length-take-le 65536 (s .args .window .now) (omega (arith, s .pre .1, c .before .before .if1 .left))))
+    omega (arith, length-take-le 65536 (s .args .window .now) (omega (arith, s .pre, c .before .before .if1 .left)))
 
 same-length-2 : tie.Need-same-length-2
 same-length-2 c = search needs

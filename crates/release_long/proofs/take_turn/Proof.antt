@@ -11,10 +11,7 @@ lseek-requires : tie.Need-lseek-requires
 lseek-requires c κs = search needs
 
 returns : tie.Need-returns
-returns c = unread-on _ _ _
-
-slice-aggregate-fill : tie.Need-slice-aggregate-fill
-slice-aggregate-fill c = search needs
+returns c = unread-on _ _ _ _
 
 fill-requires : tie.Need-fill-requires
 fill-requires c κs = search needs
@@ -25,27 +22,32 @@ enum-known-got c = search needs
 enum-told : tie.Need-enum-told
 enum-told c = search needs
 
+same-length : tie.Need-same-length
+same-length c = search needs
+
 returns-2 : tie.Need-returns-2
-returns-2 c = unread-on _ _ _
-
-slice-aggregate-take-read : tie.Need-slice-aggregate-take-read
-slice-aggregate-take-read c = search needs
-
-slice-aggregate-take-read-2 : tie.Need-slice-aggregate-take-read-2
-slice-aggregate-take-read-2 c = search needs
+returns-2 c = unread-on _ _ _ _
 
 take-read-requires : tie.Need-take-read-requires
-take-read-requires c κs =
-    (c .before .before .before .before .before .before .before .before .before .before .before .pre .0, filled _ _ _ (c .before .before .before .got .given .1) (c .before .before .before .before .before .before .fill .ensures))
-
-slice-aggregate-write-turn : tie.Need-slice-aggregate-write-turn
-slice-aggregate-write-turn c = search needs
+take-read-requires c κs = filled _ _ _ (c .before .before .before .got .given .1) (c .before .before .before .before .before .before .before .fill .ensures)
 
 write-turn-requires : tie.Need-write-turn-requires
 write-turn-requires c κs = search needs
 
+same-length-2 : tie.Need-same-length-2
+same-length-2 c = search needs
+
+same-length-3 : tie.Need-same-length-3
+same-length-3 c = search needs
+
 returns-3 : tie.Need-returns-3
-returns-3 c = unwritten-on _ _ _
+returns-3 c = unwritten-on _ _ _ _
+
+same-length-4 : tie.Need-same-length-4
+same-length-4 c = search needs
+
+same-length-5 : tie.Need-same-length-5
+same-length-5 c = search needs
 
 returns-4 : tie.Need-returns-4
 returns-4 c = search needs
@@ -57,15 +59,16 @@ take-turn-spec =
     cast-lseek
     lseek-requires
     returns
-    slice-aggregate-fill
     fill-requires
     enum-known-got
     enum-told
+    same-length
     returns-2
-    slice-aggregate-take-read
-    slice-aggregate-take-read-2
     take-read-requires
-    slice-aggregate-write-turn
     write-turn-requires
+    same-length-2
+    same-length-3
     returns-3
+    same-length-4
+    same-length-5
     returns-4)
