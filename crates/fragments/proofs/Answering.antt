@@ -1,14 +1,13 @@
 -- What cutting answers, by what was read.
 use Prim.Native.Nat.{ℕ, zero, suc, _+_, _-_, _*_, _/_, _%_, _≤_, _<_}
-use mathlib.Core.Path.{_≡_, refl, sym, ap, subst, _∙_}
+use mathlib.Core.Path.{_≡_, refl, sym, ap, _∙_}
 use mathlib.Core.Bool.{Bool, true, false, not, _||_}
-use mathlib.Core.Logic.{⊎-elim}
 use mathlib.Core.List.{List, [], _∷_, _++_, map, append-nil}
-use native.Mathlib.Nat.{div-div-eq-div-mul, zero-add, add-zero, zero-mul, mul-le-mul-left}
+use native.Mathlib.Nat.{div-div-eq-div-mul, zero-add, zero-mul, mul-le-mul-left}
 use native.Mathlib.Omega.{arith}
 use borrow.Author.Tests.{lt-ltb, le-ltb, ltb-false, le-leb, lt-leb, eq-eqb, ne-eqb}
-use lib.Dec.{ltb, leb, eqb}
-use lib.ListN.{length, take, drop, length-take, length-drop}
+use lib.Dec.{ltb, eqb}
+use lib.ListN.{length, drop, length-take, length-drop}
 use lib.Seq.{sets}
 use Rattle.rules.specs.Outcome.{Outcome, good, bad, refuse, _>>_, _>>=_, LENGTH, OPTION, ROOM}
 use Rattle.rules.specs.Bytes.{Bytes, pad, part, join, oneIfAny}
@@ -16,27 +15,27 @@ use Rattle.rules.specs.Items.{Fills}
 use Rattle.rules.specs.Packages.{cut, packageOf, pieceOf, Piece}
 use Rattle.rules.specs.Message.{head, payloadStart, notLarge, everyCheck, Message, recordOf, message}
 use Rattle.rules.specs.Reading.{MessageSpot, messageSpot, messageAt}
-use Rattle.rules.specs.Clean.{cleanPiece, cleanForm, cleaner}
+use Rattle.rules.specs.Clean.{cleanForm, cleaner}
 use Rattle.rules.specs.Buffer.{Written, stored, fitted}
 use Rattle.rules.specs.Valid as rules
-use Rattle.rules.proofs.Outcomes.{pass, halt, step, stop, stop-before, passed, stepped, after, good-inj, good≢bad, refused-pass, refused-step}
+use Rattle.rules.proofs.Outcomes.{pass, halt, step, stop, stop-before, passed, stepped, after, good-inj, good≢bad}
 use Rattle.rules.proofs.Cut as Cut
 use Rattle.rules.proofs.Passed.{Passed, passes}
 use Rattle.rules.proofs.Cleaned.{pieces-clean, any-filled, fills, payload-bytes}
 use Rattle.rules.proofs.Valids.{valid, run-length, payload-length}
-use Rattle.rules.proofs.RoundTrip.{read-written, read-valid}
+use Rattle.rules.proofs.RoundTrip.{read-written}
 use Rattle.compose.specs.declared.Record.{Record}
 use Rattle.compose.specs.Payload.{Cuts}
 use Rattle.compose.specs.Told.{recordBy}
 use Rattle.message.specs.declared.Header.{Header}
 use Rattle.message.specs.Answers.{headOfHeader}
-use Rattle.fragments.specs.Fragment.{WHOLE, Fragment, optionsOf, fragmentBytes, bytesOf}
+use Rattle.fragments.specs.Fragment.{Fragment, optionsOf, fragmentBytes, bytesOf}
 use Rattle.fragments.specs.Cutting.{wholeOf, noOffset, fragmentsWith, payloadParts, fragmentsOf, cutWhole, cutInto, CutAnswer, roomForAll, cutStored, cutter}
-use Rattle.fragments.specs.Stored.{WholeOptions, offsetPlace, cleanedOf, fragmentBy, wholeBy, Cuttable, fragmentsBy, fragmentsSize, fragmented, onePiece}
+use Rattle.fragments.specs.Stored.{WholeOptions, offsetPlace, cleanedOf, wholeBy, Cuttable, fragmentsBy, fragmentsSize, fragmented, onePiece}
 use Rattle.fragments.proofs.Options.{made-of}
 use Rattle.fragments.proofs.Finding.{place-refused, place-clear}
 use Rattle.fragments.proofs.Back.{whole-bytes}
-use Rattle.fragments.proofs.Beginning.{pay-length, cleaned-length, size-all}
+use Rattle.fragments.proofs.Beginning.{size-all}
 
 -- an answer and its buffer
 abbrev pub answer : ℕ → ℕ → ℕ → ℕ → List ℕ → CutAnswer × List ℕ

@@ -1,14 +1,13 @@
 -- The first fragment stored, the others begun, and all of them done.
-use Prim.Native.Nat.{ℕ, zero, suc, _+_, _-_, _*_, _/_, _%_, _≤_, _<_, min}
-use mathlib.Core.Path.{_≡_, refl, sym, ap, subst, _∙_}
-use mathlib.Core.List.{List, [], _∷_, _++_, map, append-nil, append-assoc}
+use Prim.Native.Nat.{ℕ, suc, _+_, _-_, _*_, _/_, _%_, _≤_, _<_, min}
+use mathlib.Core.Path.{_≡_, refl, sym, ap, _∙_}
+use mathlib.Core.List.{List, _∷_, _++_, map, append-assoc}
 use native.Mathlib.Nat.{div-div-eq-div-mul, suc-mul, mul-le-mul-right, div-add-mod', mod-lt}
 use native.Mathlib.Omega.{arith}
 use borrow.Author.Tests.{lt-ltb, le-ltb}
-use lib.ListN.{length, take, drop, length-append, length-drop, take-append-drop}
+use lib.ListN.{length, take, drop, length-append, length-drop}
 use lib.Seq.{sets, sets-eq, length-sets, take-append-le, drop-append-le, take-append-seam, drop-append-seam, length-take-le, take-all, drop-drop, take-at, drop-at}
 use borrow.Rule.Slice.PartMut.{putMid}
-use Rattle.rules.specs.Outcome.{good}
 use Rattle.rules.specs.Bytes.{pad, padded, part, join}
 use Rattle.rules.specs.Items.{Fills, none, more}
 use Rattle.rules.specs.Packages.{cut, Piece}
@@ -24,7 +23,7 @@ use Rattle.fragments.specs.Cutting.{fragmentWith, laterFragments, fragme
 use Rattle.fragments.specs.Stored.{cleanedOf, fragmentBy, numbered, wholeBy, bitsAt, Cuttable, fragmentsBy, fragmentsSize, Distributing}
 use Rattle.fragments.proofs.Chunks.{chunks-of, chunks-count}
 use Rattle.fragments.proofs.Stores.{clean-length}
-use Rattle.fragments.proofs.Distributing.{chunk, chunk-length, chunk-is, turned, later-length, later-count, next-parts, parts-joined, whole-sets}
+use Rattle.fragments.proofs.Distributing.{chunk, chunk-length, chunk-is, turned, later-length, later-count, next-parts, parts-joined}
 
 -- ---- small ones
 

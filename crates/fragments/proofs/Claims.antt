@@ -1,5 +1,5 @@
 -- Each claim, proved by the laws.
-use Prim.Native.Nat.{ℕ, _+_, _≤_, _<_}
+use Prim.Native.Nat.{ℕ, _+_, _≤_}
 use mathlib.Core.Path.{_≡_, refl, ap, ap₂, sym, subst, _∙_}
 use mathlib.Core.Logic.{_⊎_, inl, inr}
 use mathlib.Core.List.{List, [], _∷_, _++_, map, append-nil}
@@ -10,7 +10,7 @@ use lib.ListN.{length, take}
 use lib.Seq.{sets}
 use Rattle.rules.specs.Outcome.{Outcome, good, bad, _>>=_, STANDARD, PACKAGE, COUNT}
 use Rattle.rules.specs.Bytes.{Bytes, join}
-use Rattle.rules.specs.Items.{items, All, all-nil, all-cons}
+use Rattle.rules.specs.Items.{All, all-nil, all-cons}
 use Rattle.rules.specs.Packages.{pieceOf}
 use Rattle.rules.specs.Message.{head, payload, Message, message}
 use Rattle.rules.specs.Writer.{write}
@@ -29,7 +29,7 @@ use Rattle.rules.proofs.RoundTrip.{read-written, clean-twice}
 use Rattle.rules.proofs.Kept.{careful-sets, careful-none, careful-stored, take-sets, writes, roomless}
 use Rattle.fragments.specs.Fragment.{Fragment, fragment, fragmentBytes, bytesOf, payloadsOf}
 use Rattle.fragments.specs.Cutting.{wholeOf, cutInto, CutAnswer, roomForAll, cutStored, cutter}
-use Rattle.fragments.specs.Joining.{fragmentsFrom, joinedWith, atStart, cleanJoined, joined, joiner}
+use Rattle.fragments.specs.Joining.{joinedWith, atStart, cleanJoined, joined, joiner}
 use Rattle.fragments.specs.Claims.{WholeSet, fragmentsIn, CutRead, CutInOrder, CutEach, CutPayload, CutFits, CutFilled, CutCount, CutJoined, WholeJoined, GapExactly, JoinGap, JoinRefusals, JoinClean, JoinNotLonger, BuffersKept, Writes, RoomRefused}
 use Rattle.fragments.specs.Worked.{WorkedCuts, WorkedJoins}
 use Rattle.fragments.proofs.Worked as hand

@@ -1,34 +1,23 @@
 -- What is cut: valid fragments, a whole set in order, with the whole's payload.
-use Prim.Native.Nat.{ℕ, suc, _+_, _*_, _/_, _%_, _≤_, _<_}
-use mathlib.Core.Path.{_≡_, refl, sym, ap, subst, _∙_}
+use Prim.Native.Nat.{ℕ, _+_, _%_, _≤_, _<_}
+use mathlib.Core.Path.{_≡_, refl}
 use mathlib.Core.Logic.{_⊎_, inl, inr}
-use mathlib.Core.Bool.{Bool, true, false}
-use mathlib.Core.List.{List, [], _∷_, _++_, map, append-nil}
+use mathlib.Core.List.{List, [], _∷_, _++_}
 use mathlib.Core.Option.{some}
 use native.Mathlib.Omega.{arith}
-use borrow.Author.Tests.{ltb-false, leb-true, leb-false, eqb-true, not-false}
-use lib.Dec.{leb}
 use lib.ListN.{length, length-append}
-use Rattle.rules.specs.Outcome.{Outcome, good, _>>_}
-use Rattle.rules.specs.Bytes.{Bytes, pad, join, oneIfAny}
+use Rattle.rules.specs.Outcome.{good}
+use Rattle.rules.specs.Bytes.{join}
 use Rattle.rules.specs.Items.{All, all-nil, all-cons}
-use Rattle.rules.specs.Packages.{Package, pieceOf}
-use Rattle.rules.specs.Message.{Message, message}
-use Rattle.rules.specs.Writer.{write}
-use Rattle.rules.specs.Clean.{cleanForm}
 use Rattle.rules.specs.Valid as rules
-use Rattle.rules.proofs.Outcomes.{passed, stepped, came-after, neither, good-inj}
-use Rattle.rules.proofs.Pieces.{whole-words, length-padded}
-use Rattle.rules.proofs.Again.{any-le}
-use Rattle.rules.proofs.RoundTrip.{read-written, read-valid}
-use Rattle.fragments.specs.Fragment.{WHOLE, FIRST, MIDDLE, LAST, Fragment, optionsOf, offsetOption, offsetIn, offsetOf, fragmentBytes, bytesOf, payloadsOf, nextNumber}
-use Rattle.fragments.specs.Cutting.{wholeOf, fragmentWith, middleOrLast, laterFragments, fragmentsWith, payloadParts, noOffset, fragmentsOf, cutWhole, cutInto}
+use Rattle.fragments.specs.Fragment.{FIRST, MIDDLE, LAST, Fragment, optionsOf, offsetOption, offsetIn, offsetOf, payloadsOf, nextNumber}
+use Rattle.fragments.specs.Cutting.{fragmentWith, middleOrLast, laterFragments, fragmentsWith, noOffset}
 use Rattle.fragments.specs.Claims.{Behind, Follow, end, next, WholeSet, one, many, Filled, last, full}
 use Rattle.rules.specs.Items.{none}
 use Rattle.fragments.proofs.Options.{Run, Once, made-of, once-of, run-options, run-whole, offset-run, offset-once, only-offset, offset-behind}
 use Rattle.fragments.proofs.Again.{Valid}
 use Rattle.fragments.proofs.Chunks as Chunks
-use Rattle.fragments.proofs.Chunks.{Chunks, chunks-of, chunks-join, chunks-count}
+use Rattle.fragments.proofs.Chunks.{Chunks, chunks-join}
 
 -- ---- the later fragments
 

@@ -1,15 +1,14 @@
 -- Each fragment of a cut, by its place among them.
-use Prim.Native.Nat.{ℕ, zero, suc, _+_, _%_, _≤_, _<_}
+use Prim.Native.Nat.{ℕ, _+_, _%_, _<_}
 use mathlib.Core.Path.{_≡_, refl, sym, ap, subst, _∙_}
 use mathlib.Core.Bool.{Bool, true, false}
-use mathlib.Core.List.{List, [], _∷_, _++_, map, append-nil}
+use mathlib.Core.List.{List, [], _∷_, _++_, append-nil}
 use native.Mathlib.Omega.{arith}
 use borrow.Author.Tests.{leb-true}
 use lib.Dec.{leb}
 use lib.ListN.{length, length-append}
 use Rattle.rules.specs.Outcome.{good}
-use Rattle.rules.specs.Bytes.{join}
-use Rattle.rules.specs.Message.{Message, message}
+use Rattle.rules.specs.Message.{Message}
 use Rattle.rules.proofs.Outcomes.{passed, stepped, came-after, good-inj}
 use Rattle.fragments.specs.Fragment.{FIRST, Fragment, offsetOption, payloadsOf, nextNumber}
 use Rattle.fragments.specs.Cutting.{wholeOf, fragmentWith, middleOrLast, laterFragments, fragmentsWith, payloadParts, fragmentsOf, cutWhole, cutInto}

@@ -1,20 +1,20 @@
 -- The search for option 0x86 in an option run.
-use Prim.Native.Nat.{ℕ, zero, suc, _+_, _-_, _≤_, _<_}
+use Prim.Native.Nat.{ℕ, _+_, _-_, _≤_, _<_}
 use mathlib.Core.Path.{_≡_, refl, sym, ap, _∙_}
 use mathlib.Core.Bool.{Bool, true, false}
-use mathlib.Core.List.{List, [], _∷_, _++_}
-use mathlib.Core.Option.{Option, none, some}
+use mathlib.Core.List.{List, _∷_, _++_}
+use mathlib.Core.Option.{none}
 use native.Mathlib.Nat.{add-zero, add-assoc}
 use native.Mathlib.Omega.{arith}
-use borrow.Author.Tests.{eq-eqb, ne-eqb, lt-ltb, le-ltb}
+use borrow.Author.Tests.{ne-eqb, lt-ltb, le-ltb}
 use lib.ListN.{length, take, drop, length-append, length-drop, drop-of-length-le, List·getD-append}
 use lib.Seq.{drop-append-seam, drop-drop, getD-drop}
-use Rattle.rules.specs.Outcome.{Outcome, good, bad, _>>_, OPTION}
-use Rattle.rules.specs.Bytes.{at, word}
+use Rattle.rules.specs.Outcome.{good, bad, _>>_, OPTION}
+use Rattle.rules.specs.Bytes.{at}
 use Rattle.rules.specs.Options.{optionSize}
 use Rattle.rules.proofs.Outcomes.{pass, halt}
 use Rattle.rules.proofs.Loops.{rest}
-use Rattle.fragments.specs.Fragment.{parts, optionsOf, isOffset, offsetIn}
+use Rattle.fragments.specs.Fragment.{parts, optionsOf, isOffset}
 use Rattle.fragments.specs.Cutting.{noOffset}
 use Rattle.fragments.specs.Stored.{WholeOptions, offsetPlace}
 use Rattle.rules.specs.Items.{none, more}

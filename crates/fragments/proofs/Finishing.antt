@@ -1,19 +1,18 @@
 -- What joining answers, by what was gathered.
-use Prim.Native.Nat.{ℕ, zero, suc, _+_, _-_, _*_, _/_, _%_, _≤_, _<_}
-use mathlib.Core.Path.{_≡_, refl, sym, ap, subst, _∙_}
+use Prim.Native.Nat.{ℕ, suc, _+_, _-_, _*_, _/_, _%_, _≤_, _<_}
+use mathlib.Core.Path.{_≡_, refl, sym, ap, _∙_}
 use mathlib.Core.Logic.{⊎-elim}
-use mathlib.Core.Bool.{Bool, true, false, not}
-use mathlib.Core.List.{List, [], _∷_, _++_, map, append-nil, append-assoc}
+use mathlib.Core.Bool.{Bool, true, false}
+use mathlib.Core.List.{List, [], _∷_, _++_, append-nil, append-assoc}
 use mathlib.Core.Option.{none}
-use native.Mathlib.Nat.{div-div-eq-div-mul, add-zero, zero-add}
+use native.Mathlib.Nat.{add-zero, zero-add}
 use native.Mathlib.Omega.{arith}
-use borrow.Author.Tests.{lt-ltb, le-ltb, eq-eqb, ne-eqb, ltb-false}
-use lib.Dec.{ltb, eqb}
-use lib.ListN.{length, take, drop, replicate, length-append, length-drop, length-take}
+use borrow.Author.Tests.{lt-ltb, le-ltb, eq-eqb, ne-eqb}
+use lib.Dec.{eqb}
+use lib.ListN.{length, take, drop, replicate, length-append, length-take}
 use lib.Seq.{take-all, sets, sets-eq, take-at, drop-at, take-append-seam, drop-append-seam}
 use borrow.Rule.Slice.PartMut.{putMid}
 use Rattle.rules.specs.Outcome.{Outcome, good, bad, refuse, _>>_, _>>=_, STANDARD, PACKAGE, COUNT, ROOM, LARGE}
-use Rattle.refusal.specs.Numbers.{GAP}
 use Rattle.rules.specs.Bytes.{Bytes, pad, padded, part, oneIfAny}
 use Rattle.rules.specs.Options.{countSaid, differs}
 use Rattle.rules.specs.Packages.{cut}
@@ -31,7 +30,7 @@ use Rattle.message.specs.Answers.{headOfHeader}
 use Rattle.fragments.specs.Cutting.{wholeOf}
 use Rattle.fragments.specs.Joining.{fragmentsFrom, keptOptions, joinedWith, atStart, cleanJoined, joined, joiner}
 use Rattle.fragments.specs.declared.Passed.{Passed}
-use Rattle.fragments.specs.Stored.{cleanedOf, fragmentBy, wholeBy, scan, starts, gathered, headerAt, payloadsIn, oneIf, keptBy, Joinable, Storable, WholeOptions}
+use Rattle.fragments.specs.Stored.{cleanedOf, wholeBy, scan, starts, gathered, headerAt, payloadsIn, oneIf, keptBy, Joinable, Storable, WholeOptions}
 use Rattle.fragments.proofs.Gathering.{Headed, headed, nothing, first-stopped, first-options}
 use Rattle.fragments.proofs.One.{standard-bit}
 use Rattle.fragments.proofs.Payloads.{taken-here}

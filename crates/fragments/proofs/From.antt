@@ -1,23 +1,22 @@
 -- Fragments read one behind the other.
 use Prim.Native.Nat.{ℕ, zero, suc, _+_, _-_, _≤_}
-use mathlib.Core.Path.{_≡_, refl, sym, ap, _∙_}
-use mathlib.Core.Logic.{_⊎_, inl, inr, ⊎-elim}
-use mathlib.Core.Bool.{Bool, true, false, not, _&&_, _||_}
+use mathlib.Core.Path.{_≡_, refl, _∙_}
+use mathlib.Core.Logic.{_⊎_, inl, inr}
+use mathlib.Core.Bool.{true, false, not, _||_}
 use mathlib.Core.List.{List, [], _∷_, _++_}
 use mathlib.Core.Option.{Option, none, some}
 use native.Mathlib.Nat.{add-zero, add-suc, suc-add}
 use native.Mathlib.Omega.{arith}
-use borrow.Author.Tests.{eq-eqb, ne-eqb}
+use borrow.Author.Tests.{eq-eqb}
 use lib.Dec.{eqb}
 use lib.ListN.{length, drop, length-append}
 use lib.Seq.{drop-append-seam}
-use Rattle.rules.specs.Outcome.{Outcome, good, bad, refuse, _>>_, _>>=_, _∷>_}
+use Rattle.rules.specs.Outcome.{good, bad, _>>_, _>>=_, _∷>_}
 use Rattle.refusal.specs.Numbers.{GAP}
-use Rattle.rules.specs.Bytes.{join}
 use Rattle.rules.specs.Items.{All, all-nil, all-cons}
 use Rattle.rules.proofs.Outcomes.{pass, halt, step, stop, front-of}
-use Rattle.fragments.specs.Fragment.{WHOLE, FIRST, MIDDLE, LAST, Fragment, offsetOf, fragment, fragmentBytes, bytesOf, nextNumber}
-use Rattle.fragments.specs.Joining.{saysOffset, begins, goesOn, behindOffset, follows, inPlace, complete, fragmentsFrom}
+use Rattle.fragments.specs.Fragment.{FIRST, MIDDLE, LAST, Fragment, fragment, fragmentBytes, bytesOf, nextNumber}
+use Rattle.fragments.specs.Joining.{begins, goesOn, follows, inPlace, complete, fragmentsFrom}
 use Rattle.fragments.specs.Claims.{Behind, Follow, end, next, WholeSet, one, many}
 use Rattle.fragments.proofs.Again.{Valid, fragment-again, length-fragment}
 

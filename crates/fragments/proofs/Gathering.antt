@@ -1,25 +1,25 @@
 -- The fragments read one behind the other: what the loop keeps.
-use Prim.Native.Nat.{ℕ, zero, suc, _+_, _-_, _*_, _/_, _%_, _≤_, _<_}
+use Prim.Native.Nat.{ℕ, _+_, _-_, _*_, _%_, _≤_, _<_}
 use mathlib.Core.Path.{_≡_, refl, sym, ap, subst, _∙_}
 use mathlib.Core.Logic.{_⊎_, inl, inr, ⊎-elim}
 use mathlib.Core.Bool.{Bool, true, false, not, _&&_, _||_}
-use mathlib.Core.List.{List, [], _∷_, _++_, map, append-nil, append-assoc}
-use mathlib.Core.Option.{Option, none, some}
-use native.Mathlib.Nat.{add-zero, zero-add, add-assoc}
+use mathlib.Core.List.{List, [], _∷_, _++_, append-nil, append-assoc}
+use mathlib.Core.Option.{none, some}
+use native.Mathlib.Nat.{zero-add, add-assoc}
 use native.Mathlib.Omega.{arith}
-use borrow.Author.Tests.{eqb-true, eq-eqb, ne-eqb, le-ltb, not-true, not-false}
+use borrow.Author.Tests.{eqb-true, eq-eqb, ne-eqb, not-true, not-false}
 use lib.Dec.{eqb}
-use lib.ListN.{length, take, drop, length-append, length-drop, length-take, drop-of-length-le}
+use lib.ListN.{length, drop, length-append, length-drop, length-take, drop-of-length-le}
 use lib.Seq.{drop-drop}
 use Rattle.rules.specs.Outcome.{Outcome, good, bad, refuse, _>>_, _>>=_, _∷>_}
 use Rattle.refusal.specs.Numbers.{GAP}
-use Rattle.rules.specs.Bytes.{Bytes, pad, part, join}
+use Rattle.rules.specs.Bytes.{Bytes, part}
 use Rattle.rules.specs.Message.{Head, head, payloadStart, payload, fragmentBits, optionRunLength}
 use Rattle.rules.proofs.Outcomes.{pass, halt, step, stop, stepped, passed, came-after, both, good-inj, good≢bad, refused-step, refused-pass}
 use Rattle.rules.proofs.Run.{run-ends}
 use Rattle.rules.proofs.Numbers.{bytes-drop}
 use Rattle.rules.proofs.Loops.{_++>_}
-use Rattle.fragments.specs.Fragment.{WHOLE, FIRST, MIDDLE, LAST, otherBits, Fragment, optionsOf, offsetIn, offsetOf, fragmentOf, fragment, payloadsOf, nextNumber}
+use Rattle.fragments.specs.Fragment.{WHOLE, FIRST, MIDDLE, otherBits, Fragment, optionsOf, offsetIn, offsetOf, fragmentOf, fragment, payloadsOf, nextNumber}
 use Rattle.fragments.specs.Joining.{saysOffset, begins, goesOn, behindOffset, follows, inPlace, complete, fragmentsFrom}
 use Rattle.fragments.specs.declared.Passed.{Passed}
 use Rattle.fragments.specs.Stored.{WholeOptions, scan, starts, headerAt, fitsBehind, beginsBy, nextFragment, gathered}

@@ -1,24 +1,20 @@
 -- What fragments make up is a whole message of which only the checks from 9 on are open, and its clean form is no longer than the fragments.
-use Prim.Native.Nat.{ℕ, zero, suc, _+_, _-_, _*_, _/_, _%_, _≤_, _<_}
-use mathlib.Core.Path.{_≡_, refl, sym, ap, subst, _∙_}
+use Prim.Native.Nat.{ℕ, _+_, _-_, _*_, _/_, _%_, _≤_, _<_}
+use mathlib.Core.Path.{_≡_, refl, sym, _∙_}
 use mathlib.Core.Logic.{_⊎_, inl, inr, ⊎-elim}
 use mathlib.Core.Bool.{Bool, true, false}
-use mathlib.Core.List.{List, [], _∷_, _++_, map, append-nil}
-use mathlib.Core.Option.{none, some}
-use native.Mathlib.Nat.{add-zero}
+use mathlib.Core.List.{List, [], _∷_, append-nil}
 use native.Mathlib.Omega.{arith}
-use borrow.Author.Tests.{le-ltb, ltb-false, eq-eqb}
 use lib.Dec.{eqb}
-use lib.ListN.{length, drop, length-append, length-take, drop-of-length-le}
-use Rattle.rules.specs.Outcome.{Outcome, good, bad, _>>_, _>>=_, STANDARD, PACKAGE, COUNT}
-use Rattle.rules.specs.Bytes.{Bytes, pad, padded, part, join, oneIfAny}
+use lib.ListN.{length, drop, length-append, length-take}
+use Rattle.rules.specs.Outcome.{good, bad, _>>_, _>>=_, STANDARD, PACKAGE, COUNT}
+use Rattle.rules.specs.Bytes.{Bytes, pad, padded, part}
 use Rattle.rules.specs.Items.{All, all-nil, all-cons}
 use Rattle.rules.specs.Options.{optionRunFrom}
-use Rattle.rules.specs.Packages.{pieceOf, packageOf}
-use Rattle.rules.specs.Message.{head, payloadStart, payload, recordBits, everyCheck, optionRunLength, Message, recordOf, message}
+use Rattle.rules.specs.Message.{head, payloadStart, payload, everyCheck, recordOf, message}
 use Rattle.rules.specs.Writer.{write}
-use Rattle.rules.specs.Clean.{cleanBytes, cleanForm}
-use Rattle.rules.proofs.Outcomes.{pass, step, stop, passed, stepped, good-inj, good≢bad, refused-pass, refused-step, came-after}
+use Rattle.rules.specs.Clean.{cleanForm}
+use Rattle.rules.proofs.Outcomes.{stepped, good-inj, good≢bad, refused-pass, refused-step}
 use Rattle.rules.proofs.Numbers.{bytes-cons, bytes-nil, bytes-put32, bytes-zeros, bytes-append}
 use Rattle.rules.proofs.Cut as Cut
 use Rattle.rules.proofs.Run.{run-ends}
@@ -27,13 +23,11 @@ use Rattle.rules.proofs.Again.{length-write}
 use Rattle.rules.proofs.Passed.{Passed, passes}
 use Rattle.rules.proofs.Cleaned.{write-read}
 use Rattle.rules.proofs.Valids.{valid, run-length, payload-length}
-use Rattle.rules.proofs.RoundTrip.{read-written}
-use Rattle.fragments.specs.Fragment.{WHOLE, Fragment, optionsOf, withoutOffset, fragmentOf, fragment, fragmentBytes, bytesOf, payloadsOf}
-use Rattle.fragments.specs.Joining.{inPlace, begins, complete, goesOn, fragmentsFrom, keptOptions, joinedWith, atStart, cleanJoined, joined}
+use Rattle.fragments.specs.Fragment.{WHOLE, Fragment, fragmentBytes, bytesOf, payloadsOf}
+use Rattle.fragments.specs.Joining.{keptOptions, joinedWith, joined}
 use Rattle.fragments.proofs.Options.{made-of, once-of, run-whole, run-without, once-less}
-use Rattle.fragments.proofs.Again.{Valid, head-again, length-fragment, run-part, openChecks, whole-checks}
-use Rattle.fragments.proofs.From.{from-next, from-end}
-use Rattle.fragments.proofs.Readings.{Read, reads, ReadAll, reads-all}
+use Rattle.fragments.proofs.Again.{Valid, length-fragment, openChecks, whole-checks}
+use Rattle.fragments.proofs.Readings.{ReadAll}
 
 -- ---- the clean form of a message is no longer than the message
 

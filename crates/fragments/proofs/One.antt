@@ -1,20 +1,16 @@
 -- One whole message that passes, joined, is cleaned.
-use Prim.Native.Nat.{ℕ, zero, suc, _+_, _-_, _*_, _/_, _%_, _≤_, _<_}
-use mathlib.Core.Path.{_≡_, refl, sym, ap, subst, _∙_}
-use mathlib.Core.Bool.{Bool, true, false}
-use mathlib.Core.List.{List, [], _∷_, _++_, map, append-nil}
+use Prim.Native.Nat.{ℕ, _+_, _-_, _*_, _/_, _%_, _≤_}
+use mathlib.Core.Path.{_≡_, refl, sym, ap, _∙_}
+use mathlib.Core.List.{List, [], _∷_, _++_, append-nil}
 use mathlib.Core.Option.{none, some}
 use native.Mathlib.Nat.{add-zero, div-div-eq-div-mul}
 use native.Mathlib.Omega.{arith}
 use borrow.Author.Tests.{le-ltb, eq-eqb}
-use lib.ListN.{length, drop}
+use lib.ListN.{length}
 use lib.Seq.{drop-length}
-use Rattle.rules.specs.Outcome.{Outcome, good, bad, _>>_, _>>=_}
-use Rattle.rules.specs.Bytes.{Bytes, part, oneIfAny}
-use Rattle.rules.specs.Items.{Fills}
-use Rattle.rules.specs.Packages.{Piece}
-use Rattle.rules.specs.Message.{head, payloadStart, payload, checksOneToNine, checksOneToTen, everyCheck, optionRunLength, Message, recordOf, message}
-use Rattle.rules.specs.Writer.{write}
+use Rattle.rules.specs.Outcome.{good, _>>_, _>>=_}
+use Rattle.rules.specs.Bytes.{Bytes, oneIfAny}
+use Rattle.rules.specs.Message.{head, payload, checksOneToNine, checksOneToTen, everyCheck, recordOf, message}
 use Rattle.rules.specs.Clean.{cleanForm}
 use Rattle.rules.proofs.Outcomes.{pass, step, stepped, passed, came-after, front-of, good-inj}
 use Rattle.rules.proofs.Cut as Cut
@@ -22,7 +18,7 @@ use Rattle.rules.proofs.Passed.{Passed, passes}
 use Rattle.rules.proofs.RoundTrip.{read-written}
 use Rattle.fragments.specs.Fragment.{WHOLE, Fragment, fragmentOf, fragment, fragmentBytes}
 use Rattle.fragments.specs.Joining.{inPlace, begins, complete, goesOn, fragmentsFrom, keptOptions, joinedWith, atStart, cleanJoined, joined}
-use Rattle.fragments.proofs.Again.{Valid, head-again, length-fragment, run-part, openChecks, whole-checks}
+use Rattle.fragments.proofs.Again.{head-again, run-part, openChecks, whole-checks}
 use Rattle.fragments.proofs.From.{from-next, from-end}
 use Rattle.fragments.proofs.Readings.{Read, reads}
 use Rattle.fragments.proofs.Joining.{bytes-fragment}

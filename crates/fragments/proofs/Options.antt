@@ -1,5 +1,5 @@
 -- An option run is its options, one behind the other: what 0x86 at its end changes, and what is left without it.
-use Prim.Native.Nat.{ℕ, zero, suc, _+_, _-_, _≤_, _<_}
+use Prim.Native.Nat.{ℕ, suc, _+_, _-_, _≤_, _<_}
 use mathlib.Core.Path.{_≡_, refl, sym, ap, _∙_}
 use mathlib.Core.Bool.{Bool, true, false}
 use mathlib.Core.List.{List, [], _∷_, _++_, map, append-assoc}
@@ -8,13 +8,13 @@ use native.Mathlib.Omega.{arith}
 use borrow.Author.Tests.{eqb-true, eqb-false, ne-eqb}
 use lib.Dec.{eqb}
 use lib.ListN.{length, length-append, List·getD-append}
-use Rattle.rules.specs.Outcome.{Outcome, good, _>>_}
+use Rattle.rules.specs.Outcome.{good}
 use Rattle.rules.specs.Bytes.{Bytes, at, word, join}
 use Rattle.rules.specs.Items.{Fills, none, more, count}
 use Rattle.rules.specs.Options.{lengthAllowed, optionSize, optionFits, optionRunFrom, countSaid, kindOf, WholeOption}
 use Rattle.rules.specs.Claims.{Some, here, there}
 use Rattle.rules.proofs.Outcomes.{passed}
-use Rattle.rules.proofs.Numbers.{word-put32, bytes-left, bytes-right, bytes-append, bytes-nil}
+use Rattle.rules.proofs.Numbers.{word-put32, bytes-left, bytes-right, bytes-append}
 use Rattle.rules.proofs.Run.{same, run-moved}
 use Rattle.rules.proofs.Wholes.{whole-run-by, said-by}
 use Rattle.fragments.specs.Fragment.{parts, optionsOf, offsetOption, isOffset, offsetIn, withoutOffset}

@@ -1,16 +1,16 @@
 -- GAP is given exactly where the fragments are no whole set in order, at the first that does not continue those before it.
-use Prim.Native.Nat.{ℕ, zero, suc, _+_, _-_, _/_, _%_, _≤_, _<_}
+use Prim.Native.Nat.{ℕ, zero, suc, _+_, _-_, _≤_, _<_}
 use mathlib.Core.Path.{_≡_, refl, sym, ap, subst, _∙_}
 use mathlib.Core.Logic.{_⊎_, inl, inr, ⊎-elim}
 use mathlib.Core.Bool.{Bool, true, false, not, _&&_, _||_}
-use mathlib.Core.List.{List, [], _∷_, _++_, map, append-assoc}
+use mathlib.Core.List.{List, [], _∷_, _++_, append-assoc}
 use mathlib.Core.Option.{Option, none, some}
 use native.Mathlib.Nat.{zero-add}
 use native.Mathlib.Omega.{arith}
-use borrow.Author.Tests.{eqb-true, eqb-false, eq-eqb, not-true, not-false}
+use borrow.Author.Tests.{eqb-true, eqb-false, eq-eqb, not-true}
 use lib.Dec.{eqb}
 use lib.ListN.{length}
-use Rattle.rules.specs.Outcome.{Outcome, good, bad, refuse, _>>_, _>>=_, _∷>_}
+use Rattle.rules.specs.Outcome.{Outcome, good, bad, _>>_, _>>=_, _∷>_}
 use Rattle.refusal.specs.Numbers.{GAP}
 use Rattle.rules.specs.Items.{items, All, all-nil, all-cons}
 use Rattle.rules.proofs.Outcomes.{pass, halt, step, stepped, fronted, front-of, both, good-inj}

@@ -1,16 +1,15 @@
 -- The steps of joining: the state behind a word, the offset that a run says, and whether a fragment may stand where it stands.
-use Prim.Native.Nat.{ℕ, zero, suc, _+_, _-_, _*_, _/_, _%_, _≤_, _<_}
-use mathlib.Core.Path.{_≡_, refl, sym, ap, subst, _∙_}
-use mathlib.Core.Bool.{Bool, true, false, not, _&&_, _||_}
-use mathlib.Core.List.{List, [], _∷_, _++_}
-use mathlib.Core.Option.{Option, none, some}
+use Prim.Native.Nat.{ℕ, zero, suc, _+_, _-_, _%_, _≤_, _<_}
+use mathlib.Core.Path.{_≡_, refl, sym, ap, _∙_}
+use mathlib.Core.Bool.{Bool, true, false, _&&_, _||_}
+use mathlib.Core.List.{List, _∷_, _++_}
+use mathlib.Core.Option.{none, some}
 use native.Mathlib.Nat.{add-zero, add-assoc}
-use native.Mathlib.Numerals.{add-one}
 use native.Mathlib.Omega.{arith}
-use borrow.Author.Tests.{eq-eqb, ne-eqb, lt-ltb, le-ltb, eqb-true, leb-true}
+use borrow.Author.Tests.{eq-eqb, ne-eqb, lt-ltb, le-ltb, eqb-true}
 use lib.Dec.{ltb, eqb, leb}
-use lib.ListN.{length, take, drop, getD, length-append, length-drop, drop-of-length-le, List·getD-append}
-use lib.Seq.{drop-cons, take-all, drop-drop, drop-append-add}
+use lib.ListN.{length, take, drop, length-append, drop-of-length-le, List·getD-append}
+use lib.Seq.{drop-cons, drop-append-add}
 use Rattle.rules.specs.Bytes.{at, half, word, pad}
 use Rattle.rules.specs.Options.{lengthAllowed, optionSize, optionFits}
 use Rattle.rules.specs.Message.{Head, fragmentBits}

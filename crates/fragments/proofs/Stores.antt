@@ -1,13 +1,12 @@
 -- Runs of stores: a package cleaned where it stands, bytes moved down, and a fragment put together.
-use Prim.Native.Nat.{ℕ, zero, suc, _+_, _-_, _*_, _/_, _%_, _≤_, _<_}
+use Prim.Native.Nat.{ℕ, _+_, _-_, _*_, _/_, _≤_, _<_}
 use mathlib.Core.Path.{_≡_, refl, sym, ap, subst, _∙_}
-use mathlib.Core.Bool.{Bool, true, false}
+use mathlib.Core.Bool.{true}
 use mathlib.Core.List.{List, [], _∷_, _++_, map, append-nil, append-assoc}
-use native.Mathlib.Nat.{add-zero, zero-add, add-assoc}
-use native.Mathlib.Numerals.{add-one}
+use native.Mathlib.Nat.{add-zero}
 use native.Mathlib.Omega.{arith}
-use lib.ListN.{length, take, drop, set, getD, replicate, length-append, length-take, length-drop, length-set, length-replicate, drop-of-length-le}
-use lib.Seq.{sets, sets-eq, length-sets, drop-set-lt, getD-set-other, take-append-add, take-append-seam, drop-append-seam, length-take-le, take-all, drop-drop, take-take, drop-at, take-at, getD-drop}
+use lib.ListN.{length, take, drop, set, replicate, length-append, length-drop, length-replicate, drop-of-length-le}
+use lib.Seq.{sets, sets-eq, length-sets, take-append-add, length-take-le, take-all, drop-drop, drop-at, take-at, getD-drop}
 use borrow.Rule.Slice.PartMut.{putMid}
 use Rattle.rules.specs.Outcome.{good}
 use Rattle.rules.specs.Bytes.{at, half, put16, put32, pad, padded, part, join}

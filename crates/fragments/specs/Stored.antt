@@ -19,7 +19,7 @@ use Rattle.compose.specs.Payload.{Cuts}
 use Rattle.fragments.specs.Fragment.{WHOLE, FIRST, MIDDLE, LAST, otherBits, Fragment, optionsOf, isOffset, offsetIn, withoutOffset, bytesOf, payloadsOf}
 use Rattle.fragments.specs.declared.Passed.{Passed}
 use Rattle.fragments.specs.Joining.{saysOffset, fragmentsFrom}
-use Rattle.fragments.specs.Cutting.{CutAnswer, payloadParts, laterFragments, fragmentsWith, fragmentsOf, roomForAll, cutStored}
+use Rattle.fragments.specs.Cutting.{CutAnswer, payloadParts, laterFragments, fragmentsWith, roomForAll, cutStored}
 
 -- a run of whole options, none of kind 0x00
 pub record WholeOptions (o : List ℕ) : Type 0 where

@@ -1,12 +1,11 @@
 -- The array that a state is handed over in.
-use Prim.Native.Nat.{ℕ, zero, suc, _+_, _%_, _^_, _≤_, _<_}
+use Prim.Native.Nat.{ℕ, zero, suc, _+_}
 use mathlib.Core.Path.{_≡_, refl, sym, ap, _∙_}
 use mathlib.Core.List.{List, [], _∷_, _++_, append-nil}
 use native.Mathlib.Nat.{zero-add}
-use native.Mathlib.Numerals.{add-one}
 use native.Mathlib.Omega.{arith}
-use lib.ListN.{length, getD, take, drop, set, replicate, length-append, length-drop, length-replicate, drop-of-length-le}
-use lib.Seq.{sets, sets-eq, take-suc, take-all, getD-drop, length-take-le}
+use lib.ListN.{length, getD, set, replicate, length-append, length-replicate, drop-of-length-le}
+use lib.Seq.{sets, sets-eq}
 use Rattle.rules.proofs.Loops.{sets-sets}
 use Rattle.numbered.specs.Numbering.{State}
 use Rattle.numbered.specs.Quota.{Report}

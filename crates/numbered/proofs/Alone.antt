@@ -18,7 +18,7 @@ use Rattle.numbered.specs.declared.Numbered.{Numbered}
 use Rattle.numbered.specs.Numbering.{State}
 use Rattle.numbered.specs.Quota.{badIds, Report, settled, measuredIds, atZero, shorter}
 use Rattle.numbered.specs.Parts.{Most}
-use Rattle.numbered.specs.Told.{measured, toldMeasure, Counts, told, toldIds}
+use Rattle.numbered.specs.Told.{toldMeasure, Counts, told, toldIds}
 use Rattle.numbered.proofs.Whole.{most-ids, ids-refused, sheet-refused, messages-refused, done-ids}
 
 module _ (input sheetBytes : List ℕ) (quota : ℕ) (ids : List ℕ) (held most : ℕ) (inside : most ≤ length ids) (small : most ≤ 64) where

@@ -1,7 +1,7 @@
 -- The copy whole: a law for each of its answers.
 use Prim.Native.Nat.{ℕ, zero, suc, _+_, _-_, _≤_, _<_}
 use mathlib.Core.Path.{_≡_, refl, sym, ap, _∙_}
-use mathlib.Core.Logic.{_⊎_, inl, inr, ⊎-elim}
+use mathlib.Core.Logic.{_⊎_, ⊎-elim}
 use mathlib.Core.Bool.{Bool, true, false, _&&_}
 use mathlib.Core.List.{List, [], _∷_, _++_, map}
 use native.Mathlib.Nat.{zero-add}
@@ -17,7 +17,7 @@ use Rattle.rules.specs.Sheet as rows
 use Rattle.rules.specs.Sheet.{sheetRows}
 use Rattle.rules.specs.Copy.{Entry, released}
 use Rattle.rules.proofs.Loops.{sets-sets}
-use Rattle.rules.proofs.Outcomes.{pass, halt, after, step, stop, passed, came-after, stepped, good-inj, good≢bad, refused-step, refused-at, refused-pass, stop-before}
+use Rattle.rules.proofs.Outcomes.{pass, halt, step, stop, passed, came-after, stepped, good-inj, good≢bad, refused-step, refused-at, stop-before}
 use Rattle.refusal.specs.declared.Refusal.{Refusal}
 use Rattle.refusal.specs.declared.Why.the-variants.{Room, Ids}
 use Rattle.refusal.specs.Numbers.{numberOf, refused}
@@ -37,7 +37,7 @@ use Rattle.numbered.specs.Told.{totals, progress, measured, toldMeasure,
 use Rattle.numbered.proofs.Messages.{First, first-taken, few-released}
 use Rattle.numbered.proofs.States.{beside-ids, beside-length, length-map, sets-same, good-few, good-single}
 use Rattle.numbered.proofs.Twice.{twice-once}
-use Rattle.numbered.proofs.Ids.{ids-few, ids-good, after-same, ids-same, after-length, refused-ids, refused-room, copy-done}
+use Rattle.numbered.proofs.Ids.{ids-few, ids-good, after-same, ids-same, after-length, refused-room, copy-done}
 use Rattle.numbered.proofs.Seating.{named-ids}
 use Rattle.numbered.proofs.Entries.{bytes-length}
 

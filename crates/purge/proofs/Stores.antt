@@ -4,8 +4,8 @@ use mathlib.Core.Path.{_≡_, refl, sym, _∙_}
 use mathlib.Core.List.{List, [], _∷_, _++_, append-assoc}
 use native.Mathlib.Omega.{arith}
 use borrow.Rule.Slice.PartMut.{putMid}
-use lib.ListN.{length, set, take, drop, replicate, length-append, length-drop}
-use lib.Seq.{sets, sets-eq, take-append-seam, drop-set-lt, drop-drop, length-take-le}
+use lib.ListN.{length, take, drop, replicate, length-append, length-drop}
+use lib.Seq.{sets, sets-eq, take-append-seam, drop-drop, length-take-le}
 use Rattle.rules.specs.Bytes.{pad, padded, part}
 use Rattle.rules.proofs.Loops.{sets-sets}
 

@@ -13,7 +13,7 @@ use Rattle.rules.specs.Bytes.{Bytes}
 use Rattle.rules.specs.Sheet.{Row, sheet}
 use Rattle.rules.specs.Copy.{Entry, released, packagesIn}
 use Rattle.rules.proofs.Outcomes.{pass, halt, step, stop}
-use Rattle.numbered.specs.Numbering.{Running, numbersAfter, numberedBytes, State, runningIn, idOf, holding}
+use Rattle.numbered.specs.Numbering.{numbersAfter, numberedBytes, State, runningIn, idOf, holding}
 use Rattle.numbered.specs.Quota.{badState, Taken, takenFrom, messageOf, bytesTaken, idsFit, delivering, Report, reported, numberedCopy, measuredIds, atZero}
 use Rattle.numbered.proofs.States.{beside-ids, length-map}
 use Rattle.numbered.proofs.Ids.{ids-same, after-same, refused-ids, refused-room, copy-done}

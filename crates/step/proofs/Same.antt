@@ -1,6 +1,6 @@
 -- A promise allows one outcome alone: what a step tells settles the answer, the state and the buffer.
 use Prim.Native.Nat.{ℕ}
-use mathlib.Core.Path.{_≡_, sym, ap, ap₂, _∙_}
+use mathlib.Core.Path.{_≡_, ap, ap₂, _∙_}
 use mathlib.Core.List.{List}
 use Rattle.rules.specs.Claims.{TellsApart}
 use Rattle.step.specs.declared.State.{State}

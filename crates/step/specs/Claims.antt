@@ -4,7 +4,7 @@ use mathlib.Core.Path.{_≡_}
 use mathlib.Core.Bool.{false}
 use mathlib.Core.Logic.{_⊎_}
 use mathlib.Core.List.{List, [], _∷_, _++_, map}
-use lib.ListN.{length, getD, take, drop}
+use lib.ListN.{length, getD, take}
 use Rattle.rules.specs.Outcome.{Outcome, good, bad, _>>=_, SHORT, CUT, ROOM}
 use Rattle.refusal.specs.Numbers.{IDS}
 use Rattle.rules.specs.Bytes.{Bytes}

@@ -1,8 +1,7 @@
 -- Numbers to check by: document 01's M, of 56 bytes, in windows.
-use Prim.Native.Nat.{ℕ}
 use mathlib.Core.Path.{_≡_}
 use mathlib.Core.Bool.{true, false}
-use mathlib.Core.List.{List, [], _∷_, _++_}
+use mathlib.Core.List.{[], _∷_, _++_}
 use lib.ListN.{take}
 use Rattle.rules.specs.Outcome.{good, bad, SHORT, VERSION, CUT}
 use Rattle.rules.specs.Table.{words, M}

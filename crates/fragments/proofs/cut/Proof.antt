@@ -9,7 +9,7 @@ use Rattle.rules.specs.Outcome.{good}
 use Rattle.rules.specs.Bytes.{Bytes}
 use Rattle.message.specs.Answers.{spotOfMessage, toldMessage}
 use Rattle.rules.specs.Reading.{MessageSpot, messageAt}
-use Rattle.fragments.proofs.Answering.{Read, reads, Same, same-by, not-read, size-low, size-odd, whole-options, has-offset, fits-is, full, cuttable, cut-is}
+use Rattle.fragments.proofs.Answering.{Read, reads, same-by, not-read, size-low, size-odd, whole-options, has-offset, fits-is, full, cuttable, cut-is}
 use borrow.Author.Needs.{needs}
 use Rattle.fragments.proofs.cut.Statement.{statement}
 use Rattle.fragments.proofs.cut.Tie as tie

@@ -1,5 +1,5 @@
 -- `fragments::put_joined` meets its contract: header, options, zeros and payload, one behind the other; then the packages are cleaned.
-use mathlib.Core.Path.{_≡_, refl, sym, ap, subst, _∙_}
+use mathlib.Core.Path.{sym, subst}
 use native.Mathlib.Omega.{arith}
 use lib.ListN.{length}
 use Prim.Native.Nat.{_≤_}

@@ -1,5 +1,5 @@
 -- `hibernaxo::all_within` meets its contract: the fields before number i are within their bounds.
-use Prim.Native.Nat.{ℕ, _-_, _≤_}
+use Prim.Native.Nat.{_-_, _≤_}
 use mathlib.Core.Path.{_≡_, refl, sym, _∙_}
 use native.Mathlib.Omega.{arith}
 use Rattle.hibernaxo.specs.Radio.{allWithin}

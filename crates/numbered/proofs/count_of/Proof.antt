@@ -1,6 +1,4 @@
 -- `numbered::count_of` meets its contract: the answer that is judged, beside its seats.
-use mathlib.Core.Path.{ap}
-use Rattle.numbered.specs.declared.Answer.{Answer}
 use borrow.Author.Needs.{needs}
 use Rattle.numbered.proofs.count_of.Statement.{statement}
 use Rattle.numbered.proofs.count_of.Tie as tie

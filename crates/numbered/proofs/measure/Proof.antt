@@ -1,6 +1,6 @@
 -- `numbered::measure` meets its contract: the ids or the sheet refused, or what is measured under its rows.
 use Prim.Native.Nat.{ℕ, _≤_}
-use mathlib.Core.Path.{_≡_, sym, ap, subst, _∙_}
+use mathlib.Core.Path.{sym, ap, subst, _∙_}
 use borrow.Author.Needs.{needs}
 use lib.ListN.{length}
 use Rattle.numbered.specs.Quota.{measuredIds, shorter}

@@ -1,8 +1,7 @@
 -- `numbered::put_behind` meets its contract: in the loop the ids before number i are stored.
 use Prim.Native.Nat.{_+_, _-_, _≤_}
-use mathlib.Core.Path.{_≡_, refl, ap, sym, _∙_}
+use mathlib.Core.Path.{_≡_, refl, ap, _∙_}
 use native.Mathlib.Omega.{arith}
-use borrow.Author.Needs.{needs}
 use lib.ListN.{length, getD, take, length-set}
 use lib.Seq.{sets, length-sets}
 use Rattle.numbered.proofs.Stores.{put-next}
