@@ -1,7 +1,7 @@
 // Bursts: the randomizer, which works in a lent buffer, and the opening of a burst.
 use refusal::Refusal;
 use refusal::Why;
-ghost use Prim.Native.Nat.{_≤_};
+ghost use Prim.Native.Nat.{_+_, _≤_};
 ghost use mathlib.Core.Path.{_≡_};
 ghost use lib.ListN.{length};
 ghost use Rattle.rules.specs.Burst.{sequenceBytes, randomized, marked, blocksFit, codeblocks, randomizer, opener};
@@ -284,20 +284,54 @@ fn period() -> [u8; 255]
     PERIOD
 }
 
-// Randomizes at most one period, from the sequence's first byte on. The table is lent, since a constant that a loop names is stored anew in each turn.
-fn randomize_part(part: &mut [u8], table: &[u8; 255])
-    requires { ⌜ length (now part) ≤ 255 ⌝ }
-    requires { ⌜ now table ≡ sequenceBytes 0 255 ⌝ }
-    ensures { λ _. ⌜ now (part .exit) ≡ randomized 0 (now (part .entry)) ⌝ }
+// Randomizes a part of a period, from the sequence's byte `from` on. The table is lent, since a constant that a loop names is stored anew in each turn.
+fn randomize_part(part: &mut [u8], table: &[u8], from: usize)
+    requires { ⌜ from + length (now part) ≤ length (now table) ⌝ }
+    requires { ⌜ now table ≡ sequenceBytes 0 (length (now table)) ⌝ }
+    ensures { λ _. ⌜ now (part .exit) ≡ randomized from (now (part .entry)) ⌝ }
 {
     let mut k = 0;
     while k < part.len() {
-        part[k] = part[k] ^ table[k];
+        part[k] = part[k] ^ table[from + k];
         k += 1;
     }
 }
 
-// Randomizes a buffer of any length: period after period, then what is left. A turn is 255 bytes exactly, so that the compiler puts them into vector registers.
+// Randomizes a whole period: 15 vectors of 16 bytes, then the 15 bytes that are left. The compiler knows every place in the table, so it stores none.
+fn randomize_period(part: &mut [u8], table: &[u8; 255])
+    requires { ⌜ length (now part) ≡ 255 ⌝ }
+    requires { ⌜ now table ≡ sequenceBytes 0 255 ⌝ }
+    ensures { λ _. ⌜ now (part .exit) ≡ randomized 0 (now (part .entry)) ⌝ }
+{
+    randomize_part(&mut part[0..240], table, 0);
+    randomize_part(&mut part[240..], table, 240);
+}
+
+fn first_sixteen(table: &[u8; 255]) -> [u8; 16]
+    requires { ⌜ now table ≡ sequenceBytes 0 255 ⌝ }
+    ensures { λ r. ⌜ r ≡ sequenceBytes 0 16 ⌝ }
+{
+    let mut short = [0; 16];
+    wire::put_part(&mut short, 0, table, 0, 16);
+    short
+}
+
+// Randomizes at most one period. Here the loop alone knows the places, so a copy of the table is stored, a short one where that does; were the table lent itself, each call would store it.
+fn randomize_rest(part: &mut [u8], table: &[u8; 255])
+    requires { ⌜ length (now part) ≤ 255 ⌝ }
+    requires { ⌜ now table ≡ sequenceBytes 0 255 ⌝ }
+    ensures { λ _. ⌜ now (part .exit) ≡ randomized 0 (now (part .entry)) ⌝ }
+{
+    if part.len() <= 16 {
+        let short = first_sixteen(table);
+        randomize_part(part, &short, 0);
+    } else {
+        let whole = *table;
+        randomize_part(part, &whole, 0);
+    }
+}
+
+// Randomizes a buffer of any length: period after period, then what is left.
 fn randomize_all(buf: &mut [u8])
     ensures { λ _. ⌜ now (buf .exit) ≡ randomized 0 (now (buf .entry)) ⌝ }
 {
@@ -305,10 +339,10 @@ fn randomize_all(buf: &mut [u8])
     let mut at = 0;
     while 255 <= buf.len() - at {
         let end = at + 255;
-        randomize_part(&mut buf[at..end], &table);
+        randomize_period(&mut buf[at..end], &table);
         at = end;
     }
-    randomize_part(&mut buf[at..], &table);
+    randomize_rest(&mut buf[at..], &table);
 }
 
 // Randomizes a buffer. Randomizing it again gives its bytes back.

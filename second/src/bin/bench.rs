@@ -971,51 +971,69 @@ fn burst_name(what: &str, codeblocks: usize) -> String {
 
 /// Times opening a burst; the bytewise loop gets its codeblocks and checks nothing.
 fn time_open_burst(codeblocks: usize, repetitions: usize) -> BurstLine {
-    let export = |bytes: &mut [u8]| {
-        let mut values = [0; 2];
+    let export = |bytes: &mut [u8], told: Told<2>| {
+        let mut answer = Answer { number: 0, values: [0; 2] };
+        let values = answer.values.as_mut_ptr();
         // The pointer and the length are those of the burst.
-        let number = unsafe {
-            raw::hibernaxo_open_burst(bytes.as_mut_ptr(), bytes.len(), values.as_mut_ptr())
-        };
-        Answer { number, values }
+        answer.number =
+            unsafe { raw::hibernaxo_open_burst(bytes.as_mut_ptr(), bytes.len(), values) };
+        told(&answer);
     };
     let good = Answer { number: 0, values: [0, codeblocks as u64] };
-    let bytewise = |bytes: &mut [u8]| {
+    let bytewise = |bytes: &mut [u8], told: Told<2>| {
         bytewise(&mut bytes[MARKER_BYTES.len()..]);
-        good
+        told(&good);
     };
-    let ways: [Randomizing<2>; 3] = [&export, &bytewise, &answers::open_burst];
+    let second = |bytes: &mut [u8], told: Told<2>| told(&answers::open_burst(bytes));
+    let ways: [Randomizing<2>; 3] = [&export, &bytewise, &second];
     let name = burst_name("open burst", codeblocks);
     time_burst(name, &burst_of(codeblocks), good, ways, repetitions)
 }
 
 /// Times randomizing the bytes of so many codeblocks.
 fn time_randomize(codeblocks: usize, repetitions: usize) -> BurstLine {
-    let export = |bytes: &mut [u8]| {
-        let mut values = [0; 1];
+    let export = |bytes: &mut [u8], told: Told<1>| {
+        let mut answer = Answer { number: 0, values: [0; 1] };
+        let values = answer.values.as_mut_ptr();
         // The pointer and the length are those of the buffer.
-        let number = unsafe {
-            raw::hibernaxo_randomize(bytes.as_mut_ptr(), bytes.len(), values.as_mut_ptr())
-        };
-        Answer { number, values }
+        answer.number =
+            unsafe { raw::hibernaxo_randomize(bytes.as_mut_ptr(), bytes.len(), values) };
+        told(&answer);
     };
     let good = Answer { number: 0, values: [0] };
-    let bytewise = |bytes: &mut [u8]| {
+    let bytewise = |bytes: &mut [u8], told: Told<1>| {
         bytewise(bytes);
-        good
+        told(&good);
     };
-    let ways: [Randomizing<1>; 3] = [&export, &bytewise, &answers::randomize];
+    let second = |bytes: &mut [u8], told: Told<1>| told(&answers::randomize(bytes));
+    let ways: [Randomizing<1>; 3] = [&export, &bytewise, &second];
     let name = burst_name("randomize", codeblocks);
     let bytes = &burst_of(codeblocks)[MARKER_BYTES.len()..];
     time_burst(name, bytes, good, ways, repetitions)
 }
 
-/// A way to randomize the bytes of a buffer, and its answer in the export's form.
-type Randomizing<'a, const N: usize> = &'a dyn Fn(&mut [u8]) -> Answer<N>;
+/// The bytes of a memory page. A store that lies across two pages takes longer.
+const PAGE: usize = 4096;
+
+/// Puts these bytes at the start of a page, so that no way has a better place.
+fn at_page<'a>(room: &'a mut [u8], bytes: &[u8]) -> &'a mut [u8] {
+    let start = room.as_ptr().align_offset(PAGE);
+    let out = &mut room[start..start + bytes.len()];
+    out.copy_from_slice(bytes);
+    out
+}
+
+/// Where a way shows its answer.
+type Told<'a, const N: usize> = &'a mut dyn FnMut(&Answer<N>);
+
+/// A way to randomize the bytes of a buffer. It shows its answer, in the export's
+/// form, where it stands: to hand it on would be to read values in pairs that were
+/// just stored one by one, for which a processor may wait longer than for a period.
+type Randomizing<'a, const N: usize> = &'a dyn Fn(&mut [u8], Told<N>);
 
 /// Times three ways to randomize the same bytes, and the plain copy. Twice gives
-/// the bytes back, so a buffer is randomized again and again. Each way hands out
-/// its answer while it is timed; what it did and said is compared before.
+/// the bytes back, so a buffer is randomized again and again. Each way shows its
+/// answer while it is timed; what it did and said is compared before.
 fn time_burst<const N: usize>(
     name: String,
     bytes: &[u8],
@@ -1023,17 +1041,25 @@ fn time_burst<const N: usize>(
     ways: [Randomizing<N>; 3],
     repetitions: usize,
 ) -> BurstLine {
-    let mut outs = [(); 3].map(|()| bytes.to_vec());
+    let mut rooms = [(); 3].map(|()| vec![0; bytes.len() + PAGE]);
+    let mut outs = rooms.each_mut().map(|room| at_page(room, bytes));
     for turn in 0..2 {
         for (way, out) in ways.iter().zip(&mut outs) {
-            assert_eq!(way(out), good);
+            let mut answers = 0;
+            way(out, &mut |answer| {
+                assert_eq!(*answer, good);
+                answers += 1;
+            });
+            assert_eq!(answers, 1);
         }
         assert!(outs[0] == outs[1] && outs[0] == outs[2], "the ways differ");
-        assert!((outs[0] == bytes) == (turn == 1), "twice does not give the bytes back");
+        assert!((*outs[0] == *bytes) == (turn == 1), "twice does not give the bytes back");
     }
     let [export_out, bytewise_out, second_out] = &mut outs;
     let randomize = |way: usize, out: &mut [u8]| {
-        black_box(ways[way](black_box(out)));
+        ways[way](black_box(out), &mut |answer| {
+            black_box(answer);
+        });
     };
     let mut export = || randomize(0, export_out);
     let mut bytewise = || randomize(1, bytewise_out);

@@ -103,7 +103,7 @@ returns-4 c =
     let r = c .before .before .before .randomize-all in
     let e = c .before .before .before .before .before in
     let s = S (e .before .before .before) in
-    opener-done s (e .before .before .if1 .left) (begins (e .before)) (c .blocks-in .result) _ (whole e) (c .blocks-in .ensures) (behind 8 s (r .last .0) (r .ensures))
+    opener-done s (e .before .before .if1 .left) (begins (e .before)) (c .blocks-in .result) _ (whole e) (c .blocks-in .ensures) (behind 0 8 s (r .last .0) (r .ensures))
 
 -- ---- whatever a caller hands over is bytes; so at every call a burst is opened exactly if it is the marker and whole codeblocks
 
