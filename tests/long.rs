@@ -1,6 +1,7 @@
-//! What `release_long` and `listing` write for recordings longer than one window, beside the second program's copy of the whole and its packages.
+//! What `release_long` and `listing` write for recordings longer than one window, beside the second program's copy of the whole and its packages. What
+//! the second program's own streaming copy writes and says must be the same.
 //!
-//! long FOLDER RELEASE_LONG LISTING: the commands of the programs, words with blanks between; files are made in FOLDER.
+//! long FOLDER RELEASE_LONG STREAM LISTING: the commands of the programs, words with blanks between; files are made in FOLDER.
 
 use second::dice::Dice;
 use second::generate::*;
@@ -21,7 +22,8 @@ enum Expected {
 
 struct Tried<'a> {
     folder: &'a Path,
-    command: Vec<&'a str>,
+    /// The programs that copy: `release_long` and `stream`.
+    copying: [Vec<&'a str>; 2],
     listing: Vec<&'a str>,
     cases: usize,
     bytes: usize,
@@ -33,18 +35,19 @@ fn line(number: u32, place: usize) -> Vec<u8> {
 }
 
 impl Tried<'_> {
-    fn call(&self, recording: &[u8], sheet: &[u8]) -> Output {
+    /// What each program that copies gives, and its name.
+    fn call(&self, recording: &[u8], sheet: &[u8]) -> [(&str, Output); 2] {
         let names = [self.folder.join("recording"), self.folder.join("sheet")];
         std::fs::write(&names[0], recording).expect("a recording is written");
         std::fs::write(&names[1], sheet).expect("a sheet is written");
-        let mut command = Command::new(self.command[0]);
-        command.args(&self.command[1..]).args(&names).stdin(Stdio::null());
-        command.output().expect("the program runs")
+        self.copying.each_ref().map(|words| {
+            let mut command = Command::new(words[0]);
+            command.args(&words[1..]).args(&names).stdin(Stdio::null());
+            (words[words.len() - 1], command.output().expect("the program runs"))
+        })
     }
 
     fn compare(&mut self, what: &str, recording: &[u8], sheet: &[u8], expected: Expected) {
-        let output = self.call(recording, sheet);
-        let said = String::from_utf8_lossy(&output.stderr).into_owned();
         let (written, summary) = match expected {
             Expected::Copy(copy) => {
                 let summary = summary(recording, &copy);
@@ -57,13 +60,17 @@ impl Tried<'_> {
         };
         self.cases += 1;
         self.bytes += recording.len();
-        let first = output.stdout.iter().zip(&written).position(|(a, b)| a != b);
-        if output.stdout != written {
-            let head = String::from_utf8_lossy(&output.stdout[..output.stdout.len().min(60)]).into_owned();
-            panic!("{what}: {} bytes are written in place of {}, they differ from {first:?} on; {head:?}; said: {said}", output.stdout.len(), written.len());
-        }
-        if said != summary {
-            panic!("{what}: said is {said:?} in place of {summary:?}");
+        for (program, output) in self.call(recording, sheet) {
+            let said = String::from_utf8_lossy(&output.stderr).into_owned();
+            let first = output.stdout.iter().zip(&written).position(|(a, b)| a != b);
+            if output.stdout != written {
+                let head = String::from_utf8_lossy(&output.stdout[..output.stdout.len().min(60)]).into_owned();
+                let (one, other) = (output.stdout.len(), written.len());
+                panic!("{what}, {program}: {one} bytes are written in place of {other}, they differ from {first:?} on; {head:?}; said: {said}");
+            }
+            if said != summary {
+                panic!("{what}, {program}: said is {said:?} in place of {summary:?}");
+            }
         }
     }
 
@@ -134,9 +141,10 @@ fn of_sizes(dice: &mut Dice, sizes: &[usize]) -> (Vec<u8>, Vec<usize>) {
 
 fn main() {
     let arguments: Vec<String> = std::env::args().collect();
-    let [_, folder, command, listing] = &arguments[..] else { panic!("long FOLDER RELEASE_LONG LISTING") };
-    let (command, listing) = (command.split(' ').collect(), listing.split(' ').collect());
-    let mut tried = Tried { folder: Path::new(folder), command, listing, cases: 0, bytes: 0, refusals: HashSet::new() };
+    let [_, folder, release_long, stream, listing] = &arguments[..] else { panic!("long FOLDER RELEASE_LONG STREAM LISTING") };
+    let copying = [release_long, stream].map(|command| command.split(' ').collect());
+    let listing = listing.split(' ').collect();
+    let mut tried = Tried { folder: Path::new(folder), copying, listing, cases: 0, bytes: 0, refusals: HashSet::new() };
     let everything = pack_sheet(&[everything()]);
 
     // Several tenants, dirty, ids that recur; of each way to make up a recording.
@@ -218,8 +226,21 @@ fn main() {
     }
     tried.as_whole("nothing at all", &[], &everything);
 
+    // Each message of 1,000 bytes has an id of its own. The 65th is told before a bad message of a later window, and behind one of its own: the first
+    // window has 65 whole messages, and the header of the next.
+    let dice = &mut Dice::new(8, 0);
+    let world = World::new(dice);
+    let mut messages: Vec<DirtyMessage> = (0..200).map(|_| message_of_size(dice, &world, 1_000)).collect();
+    messages.iter_mut().enumerate().for_each(|(id, one)| one.message_id = id as u32);
+    let (recording, places) = lay_all(&messages);
+    for (bad, number, at) in [(0, VERSION, 0), (64, VERSION, 64), (65, VERSION, 65), (66, IDS, 64), (199, IDS, 64)] {
+        let mut damaged = recording.clone();
+        damaged[places[bad]] = 0x20;
+        tried.compare(&format!("65 ids, message {bad} is bad"), &damaged, &everything, Expected::Refused(number, places[at]));
+    }
+
     for number in [SHORT, VERSION, CUT, LARGE, IDS, ROW] {
         assert!(tried.refusals.contains(&number), "no case is refused with {number}");
     }
-    println!("tests/long: {} recordings, {} bytes, copied and listed as the second program has it", tried.cases, tried.bytes);
+    println!("tests/long: {} recordings, {} bytes, copied, by stream too, and listed as the second program has it", tried.cases, tried.bytes);
 }

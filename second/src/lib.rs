@@ -2,7 +2,7 @@
 //!
 //! It is written from the rules' text alone and shares no code with the
 //! library that it is compared with. It parses into records and renders from
-//! records; it is plain rather than fast.
+//! records; it is plain rather than fast, but for `stream`.
 
 // The rules, one module for each part of the paper.
 pub mod burst;
@@ -19,6 +19,7 @@ pub mod render;
 pub mod salvage;
 pub mod sheet;
 pub mod steps;
+pub mod stream;
 pub mod text;
 
 // The generator of inputs, good and bad.

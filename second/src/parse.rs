@@ -101,6 +101,12 @@ pub fn read_header(input: &[u8]) -> Result<Header<'_>, Refusal> {
 
 /// Checks 1 to 7 for the message at this place.
 pub fn header_at(input: &[u8], place: usize) -> Result<Header<'_>, Refusal> {
+    header_here(input, place)
+}
+
+/// The same, taken apart where it is called.
+#[inline(always)]
+pub fn header_here(input: &[u8], place: usize) -> Result<Header<'_>, Refusal> {
     let left = &input[place..];
     ask(left.len() >= HEADER_BYTES, SHORT, place)?;
     ask(left[0] >> 4 == 1, VERSION, place)?;

@@ -9,6 +9,7 @@ mod purge;
 mod radio;
 mod salvage;
 mod steps;
+mod stream;
 mod two_sheets;
 
 use crate::burst::{open_burst, randomize, MARKER_BYTES, SEQUENCE};

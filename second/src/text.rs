@@ -5,7 +5,8 @@ use crate::parse::{package_time, read_recording};
 use crate::refusal::Refusal;
 use std::fmt::Write;
 
-fn refused_line(refusal: Refusal) -> String {
+/// The one line of a refusal.
+pub fn refused_line(refusal: Refusal) -> String {
     format!("refused {} {}\n", refusal.number, refusal.place)
 }
 

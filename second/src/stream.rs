@@ -1,0 +1,315 @@
+//! The copy of a recording of any length, in constant memory: two passes over it in
+//! windows, of which the first checks and measures and the second writes.
+//!
+//! Where the other modules are plain, this one is to be fast. It makes no records:
+//! messages are checked, and their granted packages taken over, where they lie.
+
+use crate::copy::RELEASED_FLAGS;
+use crate::parse::*;
+use crate::refusal::*;
+use crate::sheet::{read_sheet, Row, MOST_ROWS, ROW_BYTES};
+use crate::steps::{number_for, State};
+use std::io::{self, ErrorKind, Read, Seek, Write};
+
+/// A window has at most so many bytes.
+pub const WINDOW: usize = MOST_BYTES;
+/// As much of the recording is held at once: a window, and the byte that tells
+/// whether the recording goes on.
+const HELD: usize = WINDOW + 1;
+/// The copy is written as soon as it has so many bytes; a window adds at most one.
+const WRITTEN_FROM: usize = WINDOW;
+
+/// What a pass did: messages handled and bytes consumed of the recording, then the
+/// numbers of the copy.
+#[derive(Clone, Copy, Debug, Default, PartialEq, Eq)]
+pub struct Streamed {
+    pub handled: u64,
+    pub consumed: u64,
+    pub messages: u64,
+    pub packages: u64,
+    pub bytes: u64,
+}
+
+/// Why there is no copy, or none that is whole.
+#[derive(Debug)]
+pub enum Failure {
+    /// Nothing is written; the place is counted in the whole recording.
+    Refused(Refusal),
+    /// The second pass did not find what the first one checked.
+    Changed,
+    Reading(io::Error),
+    Writing(io::Error),
+}
+
+/// Reads a sheet, of which no more is kept than a good one has.
+pub fn rows_of(sheet: &mut impl Read) -> Result<Vec<Row>, Failure> {
+    let most = MOST_ROWS * ROW_BYTES;
+    let mut bytes = Vec::with_capacity(most + 1);
+    sheet.take(most as u64 + 1).read_to_end(&mut bytes).map_err(Failure::Reading)?;
+    let behind = io::copy(sheet, &mut io::sink()).map_err(Failure::Reading)?;
+    let place = bytes.len() + behind as usize;
+    match read_sheet(&bytes) {
+        Err(_) if bytes.len() > most => Err(Failure::Refused(Refusal { number: ROW, place })),
+        other => other.map_err(Failure::Refused),
+    }
+}
+
+/// Writes the copy. A refused recording has nothing written.
+pub fn copy(
+    recording: &mut (impl Read + Seek),
+    rows: &[Row],
+    out: &mut impl Write,
+) -> Result<Streamed, Failure> {
+    let grants: Vec<Grant> = rows.iter().map(Grant::new).collect();
+    let mut held = Held { bytes: vec![0; HELD], from: 0, to: 0, ended: false };
+    let measured = pass(recording, &mut held, Pass::<false>::new(&grants), &mut io::sink())?;
+    recording.rewind().map_err(Failure::Reading)?;
+    held = Held { from: 0, to: 0, ended: false, ..held };
+    match pass(recording, &mut held, Pass::<true>::new(&grants), out) {
+        Ok(written) if written == measured => Ok(written),
+        Ok(_) | Err(Failure::Refused(_)) => Err(Failure::Changed),
+        failed => failed,
+    }
+}
+
+/// The bytes of the recording that are held: what is read and not consumed yet.
+struct Held {
+    bytes: Vec<u8>,
+    from: usize,
+    to: usize,
+    ended: bool,
+}
+
+impl Held {
+    /// Reads until a window and a byte more are held, or the recording ends.
+    fn fill(&mut self, recording: &mut impl Read) -> io::Result<()> {
+        if self.ended || self.to - self.from > WINDOW {
+            return Ok(());
+        }
+        self.bytes.copy_within(self.from..self.to, 0);
+        (self.from, self.to) = (0, self.to - self.from);
+        while self.to < self.bytes.len() {
+            match recording.read(&mut self.bytes[self.to..]) {
+                Ok(0) => {
+                    self.ended = true;
+                    return Ok(());
+                }
+                Ok(read) => self.to += read,
+                Err(error) if error.kind() == ErrorKind::Interrupted => {}
+                Err(error) => return Err(error),
+            }
+        }
+        Ok(())
+    }
+
+    /// The window, and whether the recording goes on behind it.
+    fn window(&self) -> (&[u8], bool) {
+        let left = &self.bytes[self.from..self.to];
+        (&left[..left.len().min(WINDOW)], left.len() > WINDOW)
+    }
+}
+
+/// Goes over the recording once, window by window.
+fn pass<const WRITING: bool>(
+    recording: &mut impl Read,
+    held: &mut Held,
+    mut pass: Pass<WRITING>,
+    out: &mut impl Write,
+) -> Result<Streamed, Failure> {
+    loop {
+        held.fill(recording).map_err(Failure::Reading)?;
+        let (window, goes_on) = held.window();
+        let consumed = pass.step(window, goes_on).map_err(|Refusal { number, place }| {
+            Failure::Refused(Refusal { number, place: pass.done.consumed as usize + place })
+        })?;
+        let ends = consumed == 0;
+        held.from += consumed;
+        pass.done.consumed += consumed as u64;
+        if pass.out.len() >= WRITTEN_FROM || ends {
+            out.write_all(&pass.out).map_err(Failure::Writing)?;
+            pass.out.clear();
+        }
+        if ends {
+            return Ok(pass.done);
+        }
+    }
+}
+
+/// A row with its times as they are compared.
+#[derive(Clone, Copy)]
+struct Grant {
+    row: Row,
+    start: u64,
+    end: u64,
+}
+
+impl Grant {
+    fn new(row: &Row) -> Grant {
+        Grant { row: *row, start: row.start(), end: row.end() }
+    }
+
+    /// Can the row grant packages of this message at all?
+    #[inline]
+    fn is_for(&self, message_id: u32, simulated: bool) -> bool {
+        (self.row.message_first..=self.row.message_last).contains(&message_id)
+            && !(self.row.acquired_only && simulated)
+    }
+
+    /// Does it grant this package of a message that it is for?
+    #[inline]
+    fn has(&self, package_id: u32, time: u64) -> bool {
+        (self.row.package_first..=self.row.package_last).contains(&package_id)
+            && (self.start..self.end).contains(&time)
+    }
+}
+
+/// A pass that measures alone, or writes too.
+struct Pass<'a, const WRITING: bool> {
+    grants: &'a [Grant],
+    state: State,
+    done: Streamed,
+    /// The part of the copy that is not written yet.
+    out: Vec<u8>,
+}
+
+impl<'a, const WRITING: bool> Pass<'a, WRITING> {
+    fn new(grants: &'a [Grant]) -> Self {
+        let room = if WRITING { WRITTEN_FROM + WINDOW } else { 0 };
+        let out = Vec::with_capacity(room);
+        Pass { grants, state: State::new(), done: Streamed::default(), out }
+    }
+
+    /// One step over the whole messages of a window, and the bytes it consumes.
+    /// Where the recording goes on, a message that the window cuts is left to the next.
+    /// A 65th id is told only if all messages of the window are good.
+    fn step(&mut self, window: &[u8], goes_on: bool) -> Result<usize, Refusal> {
+        let mut place = 0;
+        let mut without_number = None;
+        while place < window.len() {
+            match self.message(window, place) {
+                Ok((end, numbered)) => {
+                    if !numbered {
+                        without_number.get_or_insert(place);
+                    }
+                    place = end;
+                }
+                Err(Refusal { number: SHORT | CUT, .. }) if goes_on => break,
+                Err(refusal) => return Err(refusal),
+            }
+        }
+        if let Some(place) = without_number {
+            return refuse(IDS, place);
+        }
+        ask(place > 0 || window.is_empty(), LARGE, 0)?;
+        Ok(place)
+    }
+
+    /// Makes every check of the message at this place, and delivers what is granted of
+    /// it. Gives its end, and whether there is a number for it.
+    fn message(&mut self, window: &[u8], place: usize) -> Result<(usize, bool), Refusal> {
+        let header = header_here(window, place)?;
+        let payload_place = place + HEADER_BYTES + 4 * header.option_words;
+        let end = place + header.length;
+        let payload = &window[payload_place..end];
+        ask(header.flags & FRAGMENT_FLAGS == 0, FRAGMENT, place)?;
+        ask((header.flags & STANDARD_FLAG != 0) != payload.is_empty(), STANDARD, place)?;
+
+        let simulated = header.flags & SIMULATED_FLAG != 0;
+        let rows = self.rows_for(header.message_id, simulated);
+        let start = self.out.len();
+        if WRITING {
+            self.out.extend([0; HEADER_BYTES]);
+        }
+        let (mut at, mut packages, mut granted, mut bytes) = (0, 0, 0, HEADER_BYTES);
+        while at < payload.len() {
+            let left = &payload[at..];
+            let Some((length, padded)) = package_lengths(left) else {
+                return refuse(PACKAGE, payload_place + at);
+            };
+            let (id, delta) = (number_at(left, 0), number_at(left, 8));
+            let time = package_time(header.seconds, header.nanoseconds, delta);
+            if self.some_has(rows, id, time) {
+                granted += 1;
+                bytes += padded;
+                if WRITING {
+                    self.put_package(&left[..padded], length);
+                }
+            }
+            packages += 1;
+            at += padded;
+        }
+        ask(counts(header.option_run, packages), COUNT, place)?;
+
+        self.done.handled += 1;
+        if granted == 0 {
+            self.out.truncate(start);
+            return Ok((end, true));
+        }
+        let Some(number) = number_for(&mut self.state, header.message_id) else {
+            return Ok((end, false));
+        };
+        self.done.messages += 1;
+        self.done.packages += granted;
+        self.done.bytes += bytes as u64;
+        if WRITING {
+            put_front(&mut self.out[start..start + HEADER_BYTES], &header, number, bytes);
+        }
+        Ok((end, true))
+    }
+
+    /// The rows that are for a message, a bit for each.
+    fn rows_for(&self, message_id: u32, simulated: bool) -> u32 {
+        let bits = self.grants.iter().enumerate();
+        bits.fold(0, |rows, (at, grant)| {
+            rows | u32::from(grant.is_for(message_id, simulated)) << at
+        })
+    }
+
+    /// Does some of these rows grant this package?
+    fn some_has(&self, mut rows: u32, package_id: u32, time: u64) -> bool {
+        while rows != 0 {
+            if self.grants[rows.trailing_zeros() as usize].has(package_id, time) {
+                return true;
+            }
+            rows &= rows - 1;
+        }
+        false
+    }
+
+    /// Takes a package over as it stands, its reserved byte and its padding zero.
+    fn put_package(&mut self, package: &[u8], length: usize) {
+        let start = self.out.len();
+        self.out.extend_from_slice(package);
+        self.out[start + 6] = 0;
+        self.out[start + length..].fill(0);
+    }
+}
+
+/// The length and the padded length of the package at the start of these bytes, if it
+/// keeps the rules.
+fn package_lengths(left: &[u8]) -> Option<(usize, usize)> {
+    if left.len() < PACKAGE_HEADER_BYTES {
+        return None;
+    }
+    let length = usize::from(u16::from_be_bytes([left[4], left[5]]));
+    let padded = up_to_four(length);
+    (length >= PACKAGE_HEADER_BYTES && padded <= left.len()).then_some((length, padded))
+}
+
+/// Puts the header of a copy's message of so many bytes in front of it. It has no options,
+/// and of the flags those that are released.
+#[inline]
+fn put_front(front: &mut [u8], header: &Header, number: u32, bytes: usize) {
+    let flags = STANDARD_FLAG | PLAYBACK_FLAG | header.flags & RELEASED_FLAGS;
+    let words = [
+        0x1000_0000 | u32::from(flags),
+        header.message_id,
+        number,
+        bytes as u32,
+        header.seconds,
+        header.nanoseconds,
+    ];
+    for (place, word) in front.chunks_exact_mut(4).zip(words) {
+        place.copy_from_slice(&word.to_be_bytes());
+    }
+}
