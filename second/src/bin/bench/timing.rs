@@ -1,0 +1,87 @@
+//! The ways are timed in turn, and their medians shown side by side.
+
+use std::hint::black_box;
+use std::time::Instant;
+
+/// One sample takes about so many nanoseconds.
+const SAMPLE: f64 = 40_000.0;
+
+/// The medians of one scene, in nanoseconds: the export, the second program,
+/// the plain copy or what else is its measure.
+pub struct Line {
+    pub name: String,
+    pub bytes: usize,
+    pub medians: [f64; 3],
+}
+
+/// The title of a part, and the heading of its lines; `plain` is the third way.
+pub fn heading(title: &str, plain: &str) {
+    println!("\n{title}");
+    println!(
+        "{:<44}{:>7}{:>11}{:>11}{:>11}{:>15}{:>15}",
+        "",
+        "bytes",
+        "export ns",
+        "second ns",
+        format!("{plain} ns"),
+        "export/second",
+        format!("export/{plain}")
+    );
+}
+
+pub fn show(line: &Line) {
+    let [export, second, plain] = line.medians;
+    println!(
+        "{:<44}{:>7}{export:>11.0}{second:>11.0}{plain:>11.0}{:>15.2}{:>15.2}",
+        line.name,
+        line.bytes,
+        export / second,
+        export / plain
+    );
+}
+
+/// Times so many calls and gives the nanoseconds of one.
+fn sample(way: &mut dyn FnMut(), calls: usize) -> f64 {
+    let start = Instant::now();
+    for _ in 0..calls {
+        way();
+    }
+    start.elapsed().as_nanos() as f64 / calls as f64
+}
+
+/// Times the ways in turn and gives the median of each.
+pub fn medians<const WAYS: usize>(
+    repetitions: usize,
+    mut ways: [&mut dyn FnMut(); WAYS],
+) -> [f64; WAYS] {
+    let calls = ways.each_mut().map(|way| {
+        sample(way, 3);
+        ((SAMPLE / sample(way, 3).max(1.0)) as usize).max(1)
+    });
+    let medians = in_turn(repetitions, WAYS, |way| sample(ways[way], calls[way]));
+    medians.try_into().expect("there is a median of each way")
+}
+
+/// Takes so many samples of each way, and gives its median. No way is always the first.
+pub fn in_turn(repetitions: usize, ways: usize, mut sample: impl FnMut(usize) -> f64) -> Vec<f64> {
+    let mut samples = vec![Vec::new(); ways];
+    for turn in 0..repetitions {
+        for step in 0..ways {
+            let way = (turn + step) % ways;
+            samples[way].push(sample(way));
+        }
+    }
+    samples
+        .into_iter()
+        .map(|mut times| {
+            times.sort_by(f64::total_cmp);
+            times[times.len() / 2]
+        })
+        .collect()
+}
+
+/// The plain copy of the same bytes.
+pub fn memcpy(from: &[u8], to: &mut [u8]) {
+    to[..from.len()].copy_from_slice(black_box(from));
+    black_box(to);
+}
