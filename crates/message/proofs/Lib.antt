@@ -7,3 +7,4 @@ pub mod Headers
 pub mod Messages
 pub mod Same
 pub mod Agrees
+pub mod Fronts

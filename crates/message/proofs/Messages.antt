@@ -22,7 +22,7 @@ use Rattle.rules.proofs.Loops.{rest, Doing, doing-start, doing-next, doing-end,
 use Rattle.rules.proofs.Cut as Cut
 use Rattle.message.proofs.Tests.{is, isnt}
 use Rattle.message.proofs.Checks.{short}
-use Rattle.message.specs.Answers.{headOf, headerOf, oneIfBytes, Opened, cutCount, spotBehindRun, messageHere, toldMessage}
+use Rattle.message.specs.Answers.{headOf, headerOf, oneIfBytes, eightAndNine, Opened, cutCount, spotBehindRun, messageHere, toldMessage}
 use Rattle.rules.specs.Reading.{MessageSpot, messageSpot, messageAt}
 use Rattle.message.specs.declared.Raw.{Raw}
 use Rattle.message.specs.declared.Header.{Header}
@@ -48,46 +48,57 @@ uncut : (p : ℕ) (s : List ℕ) {m q : ℕ} → cutCount p s ≡ bad m q → cu
 unfolding cutCount
 uncut p s e = ⊎-elim (λ z. z) (λ z. absurd (good≢bad (sym (z .2)))) (refused-step _ _ e)
 
-module _ (p : ℕ) (s : List ℕ) (h : Head) (n : ℕ) where
-  pub fragment : (h .flags / 16 % 4 ≡ 0 → ⊥) → bad FRAGMENT p ≡ spotBehindRun p s h n
-  unfolding spotBehindRun checksEightAndNine
-  fragment a = sym (stop-before _ _ (halt _ _ _ _ (isnt (h .flags / 16 % 4) 0 a)))
+-- checks 8 and 9: by the header's numbers, as the code has them, and by the payload's bytes
+module _ (p : ℕ) (h : Head) where
+  pub fragment : (h .flags / 16 % 4 ≡ 0 → ⊥) → bad FRAGMENT p ≡ eightAndNine p h
+  unfolding eightAndNine
+  fragment a = sym (halt _ _ _ _ (isnt (h .flags / 16 % 4) 0 a))
 
-  module _ (a : h .flags / 16 % 4 ≡ 0) (o : Opened s h p n) (f z : ℕ) (ef : f ≡ 24 + 4 * h .words) (ez : z ≡ h .size) (b : ℕ) (eb : b ≡ oneIfBytes f z) where
-    some-payload : oneIfAny (part (payloadStart h) (h .size) s) ≡ b
-    some-payload = any-part s (payloadStart h) (h .size) (o .most) ∙ rw (← ef, ← ez) (sym eb)
+  module _ (a : h .flags / 16 % 4 ≡ 0) (f z : ℕ) (ef : f ≡ 24 + 4 * h .words) (ez : z ≡ h .size) (b : ℕ) (eb : b ≡ oneIfBytes f z) where
+    some-bytes : oneIfBytes (payloadStart h) (h .size) ≡ b
+    some-bytes = rw (← ef, ← ez) (sym eb)
 
-    pub standard : (h .flags / 128 % 2 ≡ b → ⊥) → bad STANDARD p ≡ spotBehindRun p s h n
-    unfolding spotBehindRun checksEightAndNine
-    standard c =
-        let q : oneIfAny (part (payloadStart h) (h .size) s) ≡ b = some-payload in
-        sym (stop-before _ _ (pass _ _ _ _ (is (h .flags / 16 % 4) 0 a) (halt-last _ _ _ (isnt (h .flags / 128 % 2) (oneIfAny (part (payloadStart h) (h .size) s)) (λ w. c (w ∙ q))))))
+    pub standard : (h .flags / 128 % 2 ≡ b → ⊥) → bad STANDARD p ≡ eightAndNine p h
+    unfolding eightAndNine
+    standard c = sym (pass _ _ _ _ (is (h .flags / 16 % 4) 0 a) (halt-last _ _ _ (isnt (h .flags / 128 % 2) (oneIfBytes (payloadStart h) (h .size)) (λ w. c (w ∙ some-bytes)))))
 
-    module _ (c : h .flags / 128 % 2 ≡ b) where
-      fits : checksEightAndNine p s h ≡ good tt
-      unfolding checksEightAndNine
-      fits = pass _ _ _ _ (is (h .flags / 16 % 4) 0 a) (pass-last _ _ _ (is (h .flags / 128 % 2) (oneIfAny (part (payloadStart h) (h .size) s)) (c ∙ sym some-payload)))
+    pub fits : h .flags / 128 % 2 ≡ b → good tt ≡ eightAndNine p h
+    unfolding eightAndNine
+    fits c = sym (pass _ _ _ _ (is (h .flags / 16 % 4) 0 a) (pass-last _ _ _ (is (h .flags / 128 % 2) (oneIfBytes (payloadStart h) (h .size)) (c ∙ sym some-bytes))))
 
-      pub no-cut : {m q : ℕ} → bad m q ≡ cutCount (p + f) (take (z - f) (drop f s)) → bad m q ≡ spotBehindRun p s h n
+  pub by-bytes : (s : List ℕ) → h .size ≤ length s → eightAndNine p h ≡ checksEightAndNine p s h
+  unfolding eightAndNine checksEightAndNine
+  by-bytes s l = rw (any-part s (payloadStart h) (h .size) l)
+
+module _ (p : ℕ) (s : List ℕ) (h : Head) (n : ℕ) (o : Opened s h p n) where
+  pub unfit : {m q : ℕ} → bad m q ≡ eightAndNine p h → bad m q ≡ spotBehindRun p s h n
+  unfolding spotBehindRun
+  unfit e = sym (stop-before _ _ (sym (e ∙ by-bytes p h s (o .most))))
+
+  module _ (c : good tt ≡ eightAndNine p h) (f z : ℕ) (ef : f ≡ 24 + 4 * h .words) (ez : z ≡ h .size) where
+    fit : checksEightAndNine p s h ≡ good tt
+    fit = sym (c ∙ by-bytes p h s (o .most))
+
+    pub no-cut : {m q : ℕ} → bad m q ≡ cutCount (p + f) (take (z - f) (drop f s)) → bad m q ≡ spotBehindRun p s h n
+    unfolding spotBehindRun cutCount
+    no-cut {m} {q} e =
+        let g : cutCount (p + payloadStart h) (part (payloadStart h) (h .size) s) ≡ bad m q = sym (rw (ef, ez) at e) in
+        sym (after _ _ fit (stop _ _ (uncut (p + payloadStart h) (part (payloadStart h) (h .size) s) g)))
+
+    module _ (k : ℕ) (e : good k ≡ cutCount (p + f) (take (z - f) (drop f s))) where
+      pub miscounted : differs (countSaid (take (24 + n - 24) (drop 24 s))) k ≡ true → bad COUNT p ≡ spotBehindRun p s h n
       unfolding spotBehindRun cutCount
-      no-cut {m} {q} e =
-          let g : cutCount (p + payloadStart h) (part (payloadStart h) (h .size) s) ≡ bad m q = sym (rw (ef, ez) at e) in
-          sym (after _ _ fits (stop _ _ (uncut (p + payloadStart h) (part (payloadStart h) (h .size) s) g)))
+      miscounted x =
+          let (cs, g, d) = stepped _ _ (sym (rw (ef, ez) at e)) in
+          let w : length cs ≡ k = good-inj d in
+          sym (after _ _ fit (step _ _ g (halt _ _ _ _ (rw w x))))
 
-      module _ (k : ℕ) (e : good k ≡ cutCount (p + f) (take (z - f) (drop f s))) where
-        pub miscounted : differs (countSaid (take (24 + n - 24) (drop 24 s))) k ≡ true → bad COUNT p ≡ spotBehindRun p s h n
-        unfolding spotBehindRun cutCount
-        miscounted x =
-            let (cs, g, d) = stepped _ _ (sym (rw (ef, ez) at e)) in
-            let w : length cs ≡ k = good-inj d in
-            sym (after _ _ fits (step _ _ g (halt _ _ _ _ (rw w x))))
-
-        pub whole : differs (countSaid (take (24 + n - 24) (drop 24 s))) k ≡ false → good (record { head = h; run = n; payload = p + f; next = p + z; packages = k }) ≡ spotBehindRun p s h n
-        unfolding spotBehindRun cutCount messageSpot
-        whole x =
-            let (cs, g, d) = stepped _ _ (sym (rw (ef, ez) at e)) in
-            let w : length cs ≡ k = good-inj d in
-            sym (after _ _ fits (step _ _ g (pass _ _ _ _ (rw w x) (rw (w, ef, ez)))))
+      pub whole : differs (countSaid (take (24 + n - 24) (drop 24 s))) k ≡ false → good (record { head = h; run = n; payload = p + f; next = p + z; packages = k }) ≡ spotBehindRun p s h n
+      unfolding spotBehindRun cutCount messageSpot
+      whole x =
+          let (cs, g, d) = stepped _ _ (sym (rw (ef, ez) at e)) in
+          let w : length cs ≡ k = good-inj d in
+          sym (after _ _ fit (step _ _ g (pass _ _ _ _ (rw w x) (rw (w, ef, ez)))))
 
 -- the header as it is told
 pub told : (h : Raw) (n : ℕ) (r : Header) (x y k : ℕ) {o : Outcome MessageSpot} → h .version ≡ 1 → h .kind ≡ 0 → r ≡ headerOf h n

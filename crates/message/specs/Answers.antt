@@ -1,17 +1,17 @@
 -- What the answers of `message` stand for, and what its inner functions promise.
 use Prim.Native.Nat.{ℕ, suc, _+_, _-_, _*_, _≤_, _<_}
 use mathlib.Core.Path.{_≡_}
-use mathlib.Core.Bool.{Bool, true, false}
+use mathlib.Core.Bool.{Bool, true, false, not}
 use mathlib.Core.List.{List}
 use mathlib.Core.Option.{Option, none, some}
 use lib.Dec.{ltb, eqb}
-use lib.ListN.{length}
+use lib.ListN.{length, drop}
 use denote.Ref.{RefT}
-use Rattle.rules.specs.Outcome.{Outcome, good, refuse, _>>_, _>>=_, Told, COUNT}
+use Rattle.rules.specs.Outcome.{Outcome, good, refuse, _>>_, _>>=_, Told, FRAGMENT, STANDARD, COUNT}
 use Rattle.rules.specs.Bytes.{at, half, pad, part}
 use Rattle.rules.specs.Options.{optionSize, optionFits, countSaid, differs}
 use Rattle.rules.specs.Packages.{packageFits, cut}
-use Rattle.rules.specs.Message.{headerBytes, Head, head, payloadStart, payload, checksEightAndNine, everyCheck}
+use Rattle.rules.specs.Message.{headerBytes, notLarge, Head, head, standardBit, fragmentBits, payloadStart, payload, checksEightAndNine, checksOneToNine, everyCheck}
 use Rattle.rules.specs.Reading.{MessageSpot, messageSpot}
 use Rattle.rules.specs.Walk.{PackageSpot}
 use Rattle.refusal.specs.Numbers.{numberOf, refused}
@@ -36,6 +36,9 @@ use Rattle.message.specs.declared.PackageRead.{PackageRead}
 use Rattle.message.specs.declared.PackageRead.the-variants as packageRead
 use Rattle.message.specs.declared.MessageRead.{MessageRead}
 use Rattle.message.specs.declared.MessageRead.the-variants as messageRead
+use Rattle.message.specs.declared.Front.{Front}
+use Rattle.message.specs.declared.FrontRead.{FrontRead}
+use Rattle.message.specs.declared.FrontRead.the-variants as frontRead
 use Rattle.message.specs.declared.Checked.{Checked}
 use Rattle.message.specs.declared.Checked.the-variants as checked
 
@@ -124,6 +127,12 @@ cutCount p s = do
 unfoldable pub oneIfBytes : ℕ → ℕ → ℕ
 oneIfBytes a e = elim (ltb a e) [ true ↦ 1 | false ↦ 0 ]
 
+-- checks 8 and 9 by a header's numbers alone: a payload that ends behind its beginning has bytes
+unfoldable pub eightAndNine : ℕ → Head → Outcome (Unit {0})
+eightAndNine p h = do
+  refuse (not (eqb (fragmentBits (h .flags)) 0)) FRAGMENT p
+  refuse (not (eqb (standardBit (h .flags)) (oneIfBytes (payloadStart h) (h .size)))) STANDARD p
+
 -- what checks 1 to 7 leave known of the message at the start of s, which stands at place p and has an option run of n bytes
 pub record Opened (s : List ℕ) (h : Head) (p n : ℕ) : Type 0 where
   pub version : h .version ≡ 1
@@ -211,6 +220,38 @@ noMessage = record { head = noHead; run = 0; payload = 0; next = 0; packages = 0
 abbrev pub messageNumbers : MessageRead → Told MessageSpot
 messageNumbers (messageRead.Message m) = record { number = 0; place = 0; values = spotOfMessage m }
 messageNumbers (messageRead.Refused r) = record { number = numberOf (r .why); place = r .place; values = noMessage }
+
+-- ---- a message in a recording, its packages not looked at
+
+-- its header with the option run's length, and where payload and next message begin
+pub record FrontSpot : Type 0 where
+  pub head : Head
+  pub run : ℕ
+  pub payload : ℕ
+  pub next : ℕ
+
+abbrev pub frontSpot : ℕ → Head → ℕ → FrontSpot
+frontSpot p h n = record { head = h; run = n; payload = p + payloadStart h; next = p + h .size }
+
+-- the message at the start of s, which stands at place p
+unfoldable pub frontHere : ℕ → List ℕ → Outcome FrontSpot
+frontHere p s = do
+  n ← checksOneToNine p s (head s)
+  good (frontSpot p (head s) n)
+
+-- the message at place p of a recording, read with 12 and 1 to 9
+unfoldable pub frontAt : List ℕ → ℕ → Outcome FrontSpot
+frontAt s p = do
+  notLarge s
+  n ← checksOneToNine p (drop p s) (head (drop p s))
+  good (frontSpot p (head (drop p s)) n)
+
+abbrev pub spotOfFront : Front → FrontSpot
+spotOfFront m = record { head = headOfHeader (m .header); run = m .header .run; payload = m .payload; next = m .next }
+
+abbrev pub toldFront : FrontRead → Outcome FrontSpot
+toldFront (frontRead.Front m) = good (spotOfFront m)
+toldFront (frontRead.Refused r) = refused r
 
 -- ---- a recording
 

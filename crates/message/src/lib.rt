@@ -67,6 +67,18 @@ pub enum MessageRead {
     Refused(Refusal),
 }
 
+// A message as far as checks 1 to 9 go: its packages are not looked at.
+pub struct Front {
+    pub header: Header,
+    pub payload: usize,
+    pub next: usize,
+}
+
+pub enum FrontRead {
+    Front(Front),
+    Refused(Refusal),
+}
+
 pub enum Checked {
     Passed { messages: usize, packages: usize },
     Refused(Refusal),
@@ -533,25 +545,31 @@ pub fn miscounts(run: &[u8], packages: usize) -> bool
     }
 }
 
+// Checks 8 and 9 of a message at place p with these numbers that has passed checks 1 to 7: its payload has bytes where it ends behind its beginning.
+fn checks_eight_and_nine(h: Raw, p: usize) -> Gate
+    ensures { λ r. ⌜ spec.toldGate r ≡ spec.eightAndNine p (spec.headOf h) ⌝ }
+{
+    if h.flags / 16 % 4 != 0 {
+        return shut(Why::Fragment, p);
+    }
+    let a = payload_start(h.words);
+    let e = wide32(h.size);
+    if h.flags / 128 % 2 != one_if_bytes(a, e) {
+        return shut(Why::Standard, p);
+    }
+    Gate::Open
+}
+
 // Checks 8 to 10 and COUNT of the message at the start of m, which stands at place p and has passed checks 1 to 7 with an option run of n bytes.
 fn checks_from_eight(m: &[u8], h: Raw, p: usize, n: usize) -> MessageRead
     requires { ⌜ spec.Opened (now m) (spec.headOf h) p n ⌝ }
     ensures { λ r. ⌜ spec.toldMessage r ≡ spec.spotBehindRun p (now (m .entry)) (spec.headOf h) n ⌝ }
 {
-    if h.flags / 16 % 4 != 0 {
-        return MessageRead::Refused(Refusal {
-            why: Why::Fragment,
-            place: p,
-        });
+    if let Gate::Shut(r) = checks_eight_and_nine(h, p) {
+        return MessageRead::Refused(r);
     }
     let a = payload_start(h.words);
     let e = wide32(h.size);
-    if h.flags / 128 % 2 != one_if_bytes(a, e) {
-        return MessageRead::Refused(Refusal {
-            why: Why::Standard,
-            place: p,
-        });
-    }
     match packages_of(&m[a..e], p + a) {
         Count::Refused(r) => MessageRead::Refused(r),
         Count::Number(k) => {
@@ -585,6 +603,36 @@ fn message_here(m: &[u8], p: usize) -> MessageRead
     }
 }
 
+// Checks 1 to 9 of the message at the start of m, which stands at place p. Fewer than 24 bytes are refused before any number is read.
+fn front_here(m: &[u8], p: usize) -> FrontRead
+    requires { ⌜ p + length (now m) < 4294967296 ⌝ }
+    ensures { λ r. ⌜ spec.toldFront r ≡ spec.frontHere p (now (m .entry)) ⌝ }
+{
+    if m.len() < 24 {
+        return FrontRead::Refused(Refusal {
+            why: Why::Short,
+            place: p,
+        });
+    }
+    let h = raw_of(m);
+    match checks_one_to_seven(m, h, p) {
+        Count::Refused(r) => FrontRead::Refused(r),
+        Count::Number(n) => {
+            if let Gate::Shut(r) = checks_eight_and_nine(h, p) {
+                return FrontRead::Refused(r);
+            }
+            let header = header_of(h, n);
+            let payload = p + payload_start(h.words);
+            let next = p + wide32(h.size);
+            FrontRead::Front(Front {
+                header,
+                payload,
+                next,
+            })
+        }
+    }
+}
+
 // The message at place `at` of a recording.
 pub fn message_at(s: &[u8], at: usize) -> MessageRead
     ensures { λ r. ⌜ spec.toldMessage r ≡ reading.messageAt (now (s .entry)) at ⌝ }
@@ -602,6 +650,25 @@ pub fn message_at(s: &[u8], at: usize) -> MessageRead
         });
     }
     message_here(&s[at..], at)
+}
+
+// The message at place `at` of a recording, checked but for its packages: 12 and 1 to 9.
+pub fn front_at(s: &[u8], at: usize) -> FrontRead
+    ensures { λ r. ⌜ spec.toldFront r ≡ spec.frontAt (now (s .entry)) at ⌝ }
+{
+    if 65536 < s.len() {
+        return FrontRead::Refused(Refusal {
+            why: Why::Large,
+            place: 65536,
+        });
+    }
+    if s.len() < at {
+        return FrontRead::Refused(Refusal {
+            why: Why::Short,
+            place: at,
+        });
+    }
+    front_here(&s[at..], at)
 }
 
 // How many messages and packages a recording has.

@@ -1,26 +1,28 @@
 -- `message::checks_from_eight` meets its contract: a law for each `return`.
 use mathlib.Core.Path.{sym, ap, _∙_}
-use native.Mathlib.Omega.{arith}
 use borrow.Author.Needs.{needs}
-use Rattle.message.proofs.Messages.{fragment, standard, no-cut, told, miscounted, whole}
-use Rattle.message.specs.Answers.{toldCount}
+use Rattle.message.proofs.Messages.{unfit, no-cut, told, miscounted, whole}
+use Rattle.message.specs.Answers.{toldGate, toldCount}
 use Rattle.message.proofs.checks_from_eight.Statement.{statement}
 use Rattle.message.proofs.checks_from_eight.Tie as tie
 
+checks-eight-and-nine-requires : tie.Need-checks-eight-and-nine-requires
+checks-eight-and-nine-requires c κs = search needs
+
+enum-known-r : tie.Need-enum-known-r
+enum-known-r c = search needs
+
 returns : tie.Need-returns
-returns c = fragment _ _ _ _ (c .if1 .taken)
+returns c = unfit _ _ _ _ (c .before .before .before .before .before .pre) (ap toldGate (sym (c .before .r .given .1)) ∙ c .before .before .before .checks-eight-and-nine .ensures)
+
+enum-told : tie.Need-enum-told
+enum-told c = search needs
 
 payload-start-requires : tie.Need-payload-start-requires
 payload-start-requires c κs = search needs
 
 wide32-requires : tie.Need-wide32-requires
 wide32-requires c κs = search needs
-
-one-if-bytes-requires : tie.Need-one-if-bytes-requires
-one-if-bytes-requires c κs = search needs
-
-returns-2 : tie.Need-returns-2
-returns-2 c = standard _ _ _ _ (c .before .before .before .before .before .if1 .left) (c .before .before .before .before .before .before .before .before .pre) _ _ (c .before .before .before .before .payload-start .ensures .0) (c .before .before .before .wide32 .ensures .0) _ (c .before .one-if-bytes .ensures) (c .if2 .taken)
 
 sub-packages-of : tie.Need-sub-packages-of
 sub-packages-of c = search needs
@@ -37,14 +39,14 @@ add-packages-of c = search needs
 packages-of-requires : tie.Need-packages-of-requires
 packages-of-requires c κs = search needs
 
-enum-known-r : tie.Need-enum-known-r
-enum-known-r c = search needs
+enum-known-r-2 : tie.Need-enum-known-r-2
+enum-known-r-2 c = search needs
 
 enum-known-k : tie.Need-enum-known-k
 enum-known-k c = search needs
 
 add-end : tie.Need-add-end
-add-end c = omega (arith, c .before .before .before .before .before .before .before .before .before .before .before .before .before .pre .run, c .before .before .before .before .before .before .before .before .before .before .before .before .before .pre .place)
+add-end c = search needs
 
 sub-miscounts : tie.Need-sub-miscounts
 sub-miscounts c = search needs
@@ -53,53 +55,54 @@ part-miscounts-start : tie.Need-part-miscounts-start
 part-miscounts-start c = search needs
 
 part-miscounts-end : tie.Need-part-miscounts-end
-part-miscounts-end c = c .before .before .before .before .before .before .before .before .before .before .before .before .before .pre .run
+part-miscounts-end c = search needs
 
 miscounts-requires : tie.Need-miscounts-requires
 miscounts-requires c κs = search needs
 
-returns-3 : tie.Need-returns-3
-returns-3 c = miscounted _ _ _ _ (c .before .before .before .before .before .before .before .before .before .before .before .before .before .if1 .left) (c .before .before .before .before .before .before .before .before .before .before .before .before .before .before .before .before .pre) _ _ (c .before .before .before .before .before .before .before .before .before .before .before .before .payload-start .ensures .0) (c .before .before .before .before .before .before .before .before .before .before .before .wide32 .ensures .0) _ (c .before .before .before .before .before .before .before .before .before .one-if-bytes .ensures) (c .before .before .before .before .before .before .before .before .if2 .left) _ (ap toldCount (sym (c .before .before .before .before .k .given .1)) ∙ c .before .before .before .before .before .before .packages-of .ensures) (sym (c .before .miscounts .ensures) ∙ c .if3 .taken)
+returns-2 : tie.Need-returns-2
+returns-2 c = miscounted _ _ _ _ (c .before .before .before .before .before .before .before .before .before .before .before .before .before .before .pre) (ap toldGate (sym (c .before .before .before .before .before .before .before .before .before .before .enum-told .given .1)) ∙ c .before .before .before .before .before .before .before .before .before .before .before .before .checks-eight-and-nine .ensures) _ _ (c .before .before .before .before .before .before .before .before .before .payload-start .ensures .0) (c .before .before .before .before .before .before .before .before .wide32 .ensures .0) _ (ap toldCount (sym (c .before .before .before .before .k .given .1)) ∙ c .before .before .before .before .before .before .packages-of .ensures) (sym (c .before .miscounts .ensures) ∙ c .if1 .taken)
 
 header-of-requires : tie.Need-header-of-requires
 header-of-requires c κs = search needs
 
-add-t28 : tie.Need-add-t28
-add-t28 c = search needs
+add-t22 : tie.Need-add-t22
+add-t22 c = search needs
 
-add-t33 : tie.Need-add-t33
-add-t33 c = search needs
+add-t27 : tie.Need-add-t27
+add-t27 c = search needs
+
+returns-3 : tie.Need-returns-3
+returns-3 c = no-cut _ _ _ _ (c .before .before .before .before .before .before .before .before .before .before .before .pre) (ap toldGate (sym (c .before .before .before .before .before .before .before .enum-told .given .1)) ∙ c .before .before .before .before .before .before .before .before .before .checks-eight-and-nine .ensures) _ _ (c .before .before .before .before .before .before .payload-start .ensures .0) (c .before .before .before .before .before .wide32 .ensures .0) (ap toldCount (sym (c .before .r2 .given .1)) ∙ c .before .before .before .packages-of .ensures)
 
 returns-4 : tie.Need-returns-4
-returns-4 c = no-cut _ _ _ _ (c .before .before .before .before .before .before .before .before .before .before .if1 .left) (c .before .before .before .before .before .before .before .before .before .before .before .before .before .pre) _ _ (c .before .before .before .before .before .before .before .before .before .payload-start .ensures .0) (c .before .before .before .before .before .before .before .before .wide32 .ensures .0) _ (c .before .before .before .before .before .before .one-if-bytes .ensures) (c .before .before .before .before .before .if2 .left) (ap toldCount (sym (c .before .r .given .1)) ∙ c .before .before .before .packages-of .ensures)
-
-returns-5 : tie.Need-returns-5
-returns-5 c = told _ _ _ _ _ _ (c .before .before .before .before .before .before .before .before .before .before .before .before .before .before .before .before .before .pre .version) (c .before .before .before .before .before .before .before .before .before .before .before .before .before .before .before .before .before .pre .kind) (c .header-of .ensures) (whole _ _ _ _ (c .before .before .before .before .before .before .before .before .before .before .before .before .before .before .if1 .left) (c .before .before .before .before .before .before .before .before .before .before .before .before .before .before .before .before .before .pre) _ _ (c .before .before .before .before .before .before .before .before .before .before .before .before .before .payload-start .ensures .0) (c .before .before .before .before .before .before .before .before .before .before .before .before .wide32 .ensures .0) _ (c .before .before .before .before .before .before .before .before .before .before .one-if-bytes .ensures) (c .before .before .before .before .before .before .before .before .before .if2 .left) _ (ap toldCount (sym (c .before .before .before .before .before .k .given .1)) ∙ c .before .before .before .before .before .before .before .packages-of .ensures) (sym (c .before .before .miscounts .ensures) ∙ c .before .if3 .left))
+returns-4 c = told _ _ _ _ _ _ (c .before .before .before .before .before .before .before .before .before .before .before .before .before .before .before .pre .version) (c .before .before .before .before .before .before .before .before .before .before .before .before .before .before .before .pre .kind) (c .header-of .ensures) (whole _ _ _ _ (c .before .before .before .before .before .before .before .before .before .before .before .before .before .before .before .pre) (ap toldGate (sym (c .before .before .before .before .before .before .before .before .before .before .before .enum-told .given .1)) ∙ c .before .before .before .before .before .before .before .before .before .before .before .before .before .checks-eight-and-nine .ensures) _ _ (c .before .before .before .before .before .before .before .before .before .before .payload-start .ensures .0) (c .before .before .before .before .before .before .before .before .before .wide32 .ensures .0) _ (ap toldCount (sym (c .before .before .before .before .before .k .given .1)) ∙ c .before .before .before .before .before .before .before .packages-of .ensures) (sym (c .before .before .miscounts .ensures) ∙ c .before .if1 .left))
 
 pub checks-from-eight-spec : {M : Type 1} → statement M
 checks-from-eight-spec =
     tie.close
     (tie.spec
+    checks-eight-and-nine-requires
+    enum-known-r
     returns
+    enum-told
     payload-start-requires
     wide32-requires
-    one-if-bytes-requires
-    returns-2
     sub-packages-of
     part-packages-of-start
     part-packages-of-end
     add-packages-of
     packages-of-requires
-    enum-known-r
+    enum-known-r-2
     enum-known-k
     add-end
     sub-miscounts
     part-miscounts-start
     part-miscounts-end
     miscounts-requires
-    returns-3
+    returns-2
     header-of-requires
-    add-t28
-    add-t33
-    returns-4
-    returns-5)
+    add-t22
+    add-t27
+    returns-3
+    returns-4)

@@ -1,0 +1,314 @@
+-- A message checked but for its packages, and what follows of the message once they are walked over.
+use Prim.Native.Nat.{ℕ, zero, suc, _+_, _-_, _*_, _≤_, _<_}
+use mathlib.Core.Path.{_≡_, refl, sym, ap, _∙_}
+use mathlib.Core.Logic.{⊎-elim}
+use mathlib.Core.Bool.{true, false}
+use mathlib.Core.List.{List, [], _∷_}
+use native.Mathlib.Nat.{add-zero, add-suc}
+use native.Mathlib.Omega.{arith}
+use borrow.Author.Tests.{lt-ltb, le-ltb, ltb-false}
+use lib.ListN.{length, take, drop, length-take, length-drop}
+use lib.Seq.{drop-drop, length-take-le}
+use Rattle.rules.specs.Outcome.{Outcome, good, bad, _∷>_, SHORT, LARGE, PACKAGE, COUNT}
+use Rattle.rules.specs.Bytes.{part}
+use Rattle.rules.specs.Items.{items}
+use Rattle.rules.specs.Options.{countSaid, differs}
+use Rattle.rules.specs.Packages.{piece, cut}
+use Rattle.rules.specs.Message.{Head, head, payloadStart, payload, optionRunLength, checksEightAndNine, checksOneToNine, checksOneToTen, everyCheck}
+use Rattle.rules.specs.Reading.{MessageSpot, messageSpot, messageAt}
+use Rattle.rules.proofs.Outcomes.{pass, halt, after, step, stop, stop-before, came-after, passed, stepped, good-inj, good≢bad, refused-at, refused-pass, refused-step, refused-front}
+use Rattle.rules.proofs.Cut as Cut
+use Rattle.rules.proofs.Loops.{rest}
+use Rattle.rules.proofs.Passed.{Sound, sound}
+use Rattle.rules.proofs.Run.{run-ends}
+use Rattle.refusal.specs.declared.Refusal.{Refusal}
+use Rattle.refusal.specs.declared.Why.the-variants as why
+use Rattle.message.proofs.Checks.{short}
+use Rattle.message.proofs.Messages.{by-bytes}
+use Rattle.message.proofs.Same.{same-front}
+use Rattle.message.specs.Answers.{headOf, headerOf, eightAndNine, toldMessage, FrontSpot, frontSpot, frontHere, frontAt, spotOfFront, toldFront}
+use Rattle.message.specs.declared.Raw.{Raw}
+use Rattle.message.specs.declared.Header.{Header}
+use Rattle.message.specs.declared.Message.{Message}
+use Rattle.message.specs.declared.MessageRead.the-variants as messageRead
+use Rattle.message.specs.declared.Front.{Front}
+use Rattle.message.specs.declared.FrontRead.{FrontRead}
+use Rattle.message.specs.declared.FrontRead.the-variants as frontRead
+
+-- ---- checks 1 to 9 of the message at the start of s
+module _ (p : ℕ) (s : List ℕ) where
+  pub short-here : length s < 24 → bad SHORT p ≡ frontHere p s
+  unfolding frontHere checksOneToNine optionRunLength
+  short-here a = sym (stop _ _ (stop _ _ (stop-before _ _ (sym (short p s (head s) a)))))
+
+  -- what checks 1 to 7 say of the header
+  pub header-sound : (h : Head) (n : ℕ) → optionRunLength p s h ≡ good n → Sound s h
+  unfolding optionRunLength
+  header-sound h n e = sound p s h (came-after _ _ e .0)
+
+  module _ (h : Raw) (eh : headOf h ≡ head s) where
+    pub not-seven : {n q : ℕ} → bad n q ≡ optionRunLength p s (headOf h) → bad n q ≡ frontHere p s
+    unfolding frontHere checksOneToNine
+    not-seven e = sym (stop _ _ (stop _ _ (rw (← eh) (sym e))))
+
+    module _ (n : ℕ) (e : good n ≡ optionRunLength p s (headOf h)) where
+      seven : optionRunLength p s (head s) ≡ good n
+      seven = rw (← eh) (sym e)
+
+      gate : eightAndNine p (headOf h) ≡ checksEightAndNine p s (head s)
+      gate = by-bytes p (headOf h) s (header-sound (headOf h) n (sym e) .most) ∙ ap (checksEightAndNine p s) eh
+
+      pub not-nine : {m q : ℕ} → bad m q ≡ eightAndNine p (headOf h) → bad m q ≡ frontHere p s
+      unfolding frontHere checksOneToNine
+      not-nine g = sym (stop _ _ (step _ _ seven (stop-before _ _ (sym (g ∙ gate)))))
+
+      pub fronting : good tt ≡ eightAndNine p (headOf h) → (r : Header) (x y : ℕ) → r ≡ headerOf h n → x ≡ 24 + 4 * h .words → y ≡ h .size
+          → toldFront (frontRead.Front (record { header = r; payload = p + x; next = p + y })) ≡ frontHere p s
+      unfolding frontHere checksOneToNine
+      fronting g r x y er ex ey =
+          let d = header-sound (headOf h) n (sym e) in
+          let f : good (frontSpot p (headOf h) n) ≡ frontHere p s = sym (step _ _ (step _ _ seven (after _ _ (sym (g ∙ gate)) refl)) (rw (← eh))) in
+          rw (er, ex, ey) (rw (d .version, d .kind) at f)
+
+-- ---- the message at a place of a recording
+module _ (s : List ℕ) (p : ℕ) where
+  pub large : 65536 < length s → bad LARGE 65536 ≡ frontAt s p
+  unfolding frontAt
+  large a = sym (halt _ _ _ _ (lt-ltb 65536 (length s) a))
+
+  module _ (a : length s ≤ 65536) where
+    pub here : {o : Outcome FrontSpot} → o ≡ frontHere p (take (length s - p) (drop p s)) → o ≡ frontAt s p
+    unfolding frontAt frontHere
+    here e = sym (pass _ _ _ _ (le-ltb 65536 (length s) a) (sym (rw rest at e)))
+
+    pub behind : length s < p → bad SHORT p ≡ frontAt s p
+    unfolding frontAt frontHere
+    behind b = sym (pass _ _ _ _ (le-ltb 65536 (length s) a) (sym (short-here p (drop p s) (omega (arith, length-drop p s)))))
+
+-- ---- a cut at another place
+
+module _ (d p : ℕ) (s : List ℕ) where
+  piece-good : {r : List ℕ × ℕ} → piece p s ≡ good r → piece (d + p) s ≡ good r
+  unfolding piece
+  piece-good e = let (t, q) = passed _ _ _ _ e in pass _ _ _ _ t q
+
+  piece-bad : {n i : ℕ} → piece p s ≡ bad n i → piece (d + p) s ≡ bad n (d + i)
+  unfolding piece
+  piece-bad e = ⊎-elim (λ z. rw (← z .1, ← z .2) (halt _ _ _ _ (z .0))) (λ g. absurd (good≢bad (sym g))) (refused-pass _ _ _ _ e)
+
+front-stop : {A : Type 0} (a : A) (o : Outcome (List A)) {n p : ℕ} → o ≡ bad n p → (a ∷> o) ≡ bad n p
+unfolding _∷>_
+front-stop a o e = rw e
+
+-- where it is refused, it is refused as far behind its beginning
+moved : (d k p : ℕ) (s : List ℕ) {n i : ℕ} → items piece k p s ≡ bad n i → items piece k (d + p) s ≡ bad n (d + i)
+unfolding items
+moved d k p [] e = absurd (good≢bad (sym e))
+moved d (suc k) p (x ∷ s) e = rw (← add-suc) (moved d k (suc p) s e)
+moved d zero p (x ∷ s) e =
+    ⊎-elim (λ z. stop _ _ (piece-bad d p (x ∷ s) z))
+    (λ w. step _ _ (piece-good d p (x ∷ s) (w .1)) (front-stop _ _ (rw (← add-suc) (moved d (w .0 .1 - 1) (suc p) s (refused-front _ _ (w .2))))))
+    (refused-step _ _ e)
+
+pub cut-bad : (p : ℕ) (s : List ℕ) {n i : ℕ} → cut 0 s ≡ bad n i → cut p s ≡ bad n (p + i)
+cut-bad p s e = rw add-zero at (moved p 0 0 s e)
+
+pub cut-good : (p : ℕ) (s : List ℕ) {cs : List (List ℕ)} → cut 0 s ≡ good cs → cut p s ≡ good cs
+cut-good p s e = Cut.complete (Cut.sound 0 0 s e) p
+
+-- ---- from checks 1 to 9 to every check
+module _ (p : ℕ) (s : List ℕ) (h : Head) where
+  not-nine-not-every : {n q : ℕ} → checksOneToNine p s h ≡ bad n q → everyCheck p s h ≡ bad n q
+  unfolding everyCheck checksOneToTen
+  not-nine-not-every e = stop _ _ (stop _ _ e)
+
+  module _ (n : ℕ) (nine : checksOneToNine p s h ≡ good n) where
+    uncut : {m q : ℕ} → cut (p + payloadStart h) (payload s h) ≡ bad m q → everyCheck p s h ≡ bad m q
+    unfolding everyCheck checksOneToTen
+    uncut e = stop _ _ (step _ _ nine (stop _ _ e))
+
+    module _ (cs : List (List ℕ)) (e : cut (p + payloadStart h) (payload s h) ≡ good cs) where
+      ten : checksOneToTen p s h ≡ good (n, cs)
+      unfolding checksOneToTen
+      ten = step _ _ nine (step _ _ e refl)
+
+      other : differs (countSaid (part 24 (24 + n) s)) (length cs) ≡ true → everyCheck p s h ≡ bad COUNT p
+      unfolding everyCheck
+      other x = step _ _ ten (halt _ _ _ _ x)
+
+      every : differs (countSaid (part 24 (24 + n) s)) (length cs) ≡ false → everyCheck p s h ≡ good (n, cs)
+      unfolding everyCheck
+      every x = step _ _ ten (pass _ _ _ _ x refl)
+
+  -- and back
+  every-nine : (r : ℕ × List (List ℕ)) → everyCheck p s h ≡ good r → checksOneToNine p s h ≡ good (r .0)
+  unfolding everyCheck checksOneToTen
+  every-nine r e =
+      let (x, y, e) = stepped _ _ e in
+      let (a, e) = passed _ _ _ _ e in
+      let (n, o, y) = stepped _ _ y in
+      let (cs, c, y) = stepped _ _ y in
+      let u : (n, cs) ≡ x = cc in
+      let q : (n, cs) ≡ r = cc in
+      rw (← q) o
+
+  -- what checks 1 to 9 say of the header, and of its option run
+  nine-sound : {n : ℕ} → checksOneToNine p s h ≡ good n → Sound s h
+  unfolding checksOneToNine
+  nine-sound e =
+      let (m, o, z) = stepped _ _ e in
+      header-sound p s h m o
+
+  nine-run : {n : ℕ} → checksOneToNine p s h ≡ good n → 24 + n ≤ payloadStart h
+  unfolding checksOneToNine optionRunLength
+  nine-run {n} e =
+      let (m, o, z) = stepped _ _ e in
+      let (a, b) = came-after _ _ o in
+      let (c, d) = came-after _ _ z in
+      let u : m ≡ n = good-inj d in
+      let r = run-ends [] 0 (p + 24) 0 (part 24 (payloadStart h) s) (omega arith) b in
+      omega (arith, u, r .most, length-take (payloadStart h - 24) (drop 24 s))
+
+-- ---- for a caller that walks over the packages itself
+
+-- a message that is refused by checks 1 to 9
+pub front-refused : (s : List ℕ) (k : ℕ) (f : Refusal) → toldFront (frontRead.Refused f) ≡ frontAt s k → toldMessage (messageRead.Refused f) ≡ messageAt s k
+unfolding frontAt messageAt
+front-refused s k f e =
+    sym
+    (⊎-elim (λ z. rw (← z .1, ← z .2) (halt _ _ _ _ (z .0)))
+    (λ z. pass _ _ _ _ (z .0) (⊎-elim (λ b. stop _ _ (not-nine-not-every k (drop k s) (head (drop k s)) b)) (λ w. absurd (good≢bad (sym (w .2)))) (refused-step _ _ (z .1))))
+    (refused-at _ _ _ _ (sym e)))
+
+-- one that passes them
+record Known (s : List ℕ) (k : ℕ) (m : Front) : Type 0 where
+  pub small : length s ≤ 65536
+  pub nine : checksOneToNine k (drop k s) (head (drop k s)) ≡ good (m .header .run)
+  pub spot : frontSpot k (head (drop k s)) (m .header .run) ≡ spotOfFront m
+
+known : (s : List ℕ) (k : ℕ) (m : Front) → toldFront (frontRead.Front m) ≡ frontAt s k → Known s k m
+unfolding frontAt
+known s k m e =
+    let (a, g) = passed _ _ _ _ (sym e) in
+    let (n, q, f) = stepped _ _ g in
+    let z : n ≡ m .header .run = ap (λ (x : FrontSpot). x .run) (good-inj f) in
+    record { small = ltb-false _ _ a; nine = rw (← z) q; spot = ap (frontSpot k (head (drop k s))) (sym z) ∙ good-inj f }
+
+-- its places lie in the recording, in this order, and its option run lies in front of its payload
+pub record Fronted (s : List ℕ) (k : ℕ) (m : Front) : Type 0 where
+  pub whole : length s ≤ 65536
+  pub within : m .next ≤ length s
+  pub forth : m .payload ≤ m .next
+  pub behind : k + 24 ≤ m .payload
+  pub on : k < m .next
+  pub run : k + 24 + m .header .run ≤ m .payload
+  pub long : length (take (m .next - m .payload) (drop (m .payload) s)) ≡ m .next - m .payload
+  pub small : length (take (m .next - m .payload) (drop (m .payload) s)) ≤ 65536
+
+module _ (s : List ℕ) (k : ℕ) (m : Front) where
+  -- the payload and the option run, as they are lent
+  abbrev lent : List ℕ
+  lent = take (m .next - m .payload) (drop (m .payload) s)
+
+  abbrev options : List ℕ
+  options = take (k + 24 + m .header .run - (k + 24)) (drop (k + 24) s)
+
+  abbrev t : List ℕ
+  t = drop k s
+
+  module _ (f : Known s k m) where
+    payload-at : k + payloadStart (head t) ≡ m .payload
+    payload-at = ap (λ (x : FrontSpot). x .payload) (f .spot)
+
+    next-at : k + head t .size ≡ m .next
+    next-at = ap (λ (x : FrontSpot). x .next) (f .spot)
+
+    lent-is : lent ≡ payload t (head t)
+    lent-is =
+        let e : m .next - m .payload ≡ head t .size - payloadStart (head t) = omega (arith, payload-at, next-at) in
+        rw (e, ← payload-at, drop-drop)
+
+    options-are : options ≡ part 24 (24 + m .header .run) t
+    options-are =
+        let e : k + 24 + m .header .run - (k + 24) ≡ 24 + m .header .run - 24 = omega arith in
+        rw (e, drop-drop)
+
+    in-order : Fronted s k m
+    in-order =
+        let h = nine-sound k t (head t) (f .nine) in
+        let r = nine-run k t (head t) (f .nine) in
+        let within : m .next ≤ length s = omega (arith, next-at, h .most, h .long, length-drop k s) in
+        let forth : m .payload ≤ m .next = omega (arith, payload-at, next-at, h .least) in
+        let behind : k + 24 ≤ m .payload = omega (arith, payload-at) in
+        let long : length lent ≡ m .next - m .payload = length-take-le (m .next - m .payload) (drop (m .payload) s) (omega (arith, length-drop (m .payload) s)) in
+        record {
+          whole = f .small;
+          within = within;
+          forth = forth;
+          behind = behind;
+          on = omega arith;
+          run = omega (arith, r, payload-at);
+          long = long;
+          small = omega (arith, long, f .small);
+        }
+
+    told-bad : {n q : ℕ} → everyCheck k t (head t) ≡ bad n q → bad n q ≡ messageAt s k
+    unfolding messageAt
+    told-bad e = sym (pass _ _ _ _ (le-ltb 65536 (length s) (f .small)) (stop _ _ e))
+
+    module _ (cs : List (List ℕ)) (e : cut 0 lent ≡ good cs) where
+      cut-there : cut (k + payloadStart (head t)) (payload t (head t)) ≡ good cs
+      cut-there = cut-good (k + payloadStart (head t)) (payload t (head t)) (rw lent-is at e)
+
+      told-count : differs (countSaid options) (length cs) ≡ true → bad COUNT k ≡ messageAt s k
+      told-count x = told-bad (other k t (head t) (m .header .run) (f .nine) cs cut-there (rw options-are at x))
+
+      told-good : differs (countSaid options) (length cs) ≡ false
+          → toldMessage (messageRead.Message (record { header = m .header; payload = m .payload; next = m .next; packages = length cs })) ≡ messageAt s k
+      unfolding messageAt messageSpot
+      told-good x =
+          sym
+          (pass _ _ _ _ (le-ltb 65536 (length s) (f .small))
+          (step _ _ (every k t (head t) (m .header .run) (f .nine) cs cut-there (rw options-are at x))
+          (ap (λ (y : FrontSpot). good (record { head = y .head; run = y .run; payload = y .payload; next = y .next; packages = length cs })) (f .spot))))
+
+    told-package : (i : ℕ) → cut 0 lent ≡ bad PACKAGE i → bad PACKAGE (m .payload + i) ≡ messageAt s k
+    told-package i e =
+        let c : cut (m .payload) (payload t (head t)) ≡ bad PACKAGE (m .payload + i) = cut-bad (m .payload) (payload t (head t)) (rw lent-is at e) in
+        told-bad (uncut k t (head t) (m .header .run) (f .nine) (rw payload-at c))
+
+  module _ (e : toldFront (frontRead.Front m) ≡ frontAt s k) where
+    pub fronted : Fronted s k m
+    fronted = in-order (known s k m e)
+
+    -- one of its packages does not keep the rules
+    pub front-package : (i : ℕ) → cut 0 (take (m .next - m .payload) (drop (m .payload) s)) ≡ bad PACKAGE i
+        → toldMessage (messageRead.Refused (record { why = why.Package; place = m .payload + i })) ≡ messageAt s k
+    front-package i c = told-package (known s k m e) i c
+
+    module _ (cs : List (List ℕ)) (c : cut 0 (take (m .next - m .payload) (drop (m .payload) s)) ≡ good cs) where
+      -- its option run says another number of packages
+      pub front-count : differs (countSaid (take (k + 24 + m .header .run - (k + 24)) (drop (k + 24) s))) (length cs) ≡ true
+          → toldMessage (messageRead.Refused (record { why = why.Count; place = k })) ≡ messageAt s k
+      front-count x = told-count (known s k m e) cs c x
+
+      -- it passes
+      pub front-message : differs (countSaid (take (k + 24 + m .header .run - (k + 24)) (drop (k + 24) s))) (length cs) ≡ false
+          → toldMessage (messageRead.Message (record { header = m .header; payload = m .payload; next = m .next; packages = length cs })) ≡ messageAt s k
+      front-message x = told-good (known s k m e) cs c x
+
+-- a message that passes every check has this front, and no other answer is one
+pub front-of-message : (s : List ℕ) (k : ℕ) (m : Message) → toldMessage (messageRead.Message m) ≡ messageAt s k
+    → toldFront (frontRead.Front (record { header = m .header; payload = m .payload; next = m .next })) ≡ frontAt s k
+unfolding frontAt messageAt messageSpot
+front-of-message s k m e =
+    let (a, g) = passed _ _ _ _ (sym e) in
+    let (r, q, f) = stepped _ _ g in
+    sym
+    (pass _ _ _ _ a
+    (step _ _ (every-nine k (drop k s) (head (drop k s)) r q)
+    (ap (λ (y : MessageSpot). good (record { head = y .head; run = y .run; payload = y .payload; next = y .next })) (good-inj f))))
+
+pub message-front : (s : List ℕ) (k : ℕ) (m : Message) → toldMessage (messageRead.Message m) ≡ messageAt s k
+    → (x : FrontRead) → toldFront x ≡ frontAt s k → x ≡ frontRead.Front (record { header = m .header; payload = m .payload; next = m .next })
+message-front s k m e x f = same-front x _ (f ∙ sym (front-of-message s k m e))
