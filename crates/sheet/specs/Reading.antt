@@ -1,7 +1,9 @@
 -- What reading a row, and reading a sheet, tell.
-use Prim.Native.Nat.{ℕ}
+use Prim.Native.Nat.{ℕ, _*_, _%_}
 use mathlib.Core.Path.{_≡_}
+use mathlib.Core.Bool.{Bool, not, _||_}
 use mathlib.Core.List.{List, map}
+use lib.Dec.{ltb, eqb}
 use Rattle.rules.specs.Outcome.{Outcome, good, bad, ROW}
 use Rattle.rules.specs.Sheet as rules
 use Rattle.refusal.specs.Numbers.{refused}
@@ -21,6 +23,10 @@ toldRow p Read.Bad = bad ROW p
 -- wherever s stands, it has this row at its start
 pub record ReadsRow (s : List ℕ) (r : RowRead) : Type 0 where
   pub reads : (p : ℕ) → toldRow p r ≡ rules.row p s
+
+-- a sheet of so many bytes does not have whole rows, or has too many
+abbrev pub wrongSize : ℕ → Bool
+wrongSize n = ltb (rules.mostRows * rules.rowBytes) n || not (eqb (n % rules.rowBytes) 0)
 
 -- the complete answer
 abbrev pub answer : Outcome (List rules.Row × ℕ) → Outcome (List rules.Row × ℕ) × (List rules.Row × ℕ)
