@@ -43,7 +43,7 @@ module _ (input sheetBytes : List ℕ) (quota : ℕ) (ids : List ℕ) (held most
     pub sheet-bad : (f : Refusal) → rows.sheet sheetBytes ≡ bad (numberOf (f .why)) (f .place) → toldIds (record { answer = answer.Refused f; held = held }) ids ≡ measuredIds most input sheetBytes quota ids held
     sheet-bad f e = as-copied (record { answer = answer.Refused f; held = held }) ids zeros buffer (sheet-refused input sheetBytes quota ids zeros held buffer most within false good-ids f e)
 
-    module _ (rs : List rows.Row) (valid : rows.sheet sheetBytes ≡ good rs) (fresh : List ℕ) (long : length fresh ≡ 64) (r : Counted) (counts : Counts rs input quota (take held ids) (most - held) fresh r) where
+    module _ (rs : List rows.Row) (valid : rows.sheet sheetBytes ≡ good rs) (fresh marks : List ℕ) (long : length fresh ≡ 64) (r : Counted) (counts : Counts rs input quota (take held ids) (most - held) fresh marks r) where
       pub messages-bad : (f : Refusal) → r .answer ≡ answer.Refused f → toldIds (record { answer = answer.Refused f; held = held }) ids ≡ measuredIds most input sheetBytes quota ids held
       messages-bad f e = as-copied (record { answer = answer.Refused f; held = held }) ids zeros buffer (messages-refused input sheetBytes quota ids zeros held buffer most within rs valid false good-ids f (ap toldMeasure (sym e) ∙ counts .told))
 

@@ -30,10 +30,11 @@ use Rattle.message.specs.declared.MessageRead.the-variants as M
 use Rattle.message.specs.Answers.{messageHere, toldMessage}
 use Rattle.rules.specs.Reading.{MessageSpot, messageSpot, messageAt}
 use Rattle.numbered.specs.declared.Size.{Size}
-use Rattle.numbered.specs.Parts.{messageBy, kept, payloadOf, withEntry, headBytes}
+use Rattle.numbered.specs.Parts.{messageBy, kept, payloadOf, flagsOf, flagsIn, withEntry, headBytes}
 use Rattle.numbered.specs.Told.{totals}
 use Rattle.numbered.specs.Numbering.{Running, nextNumber, countedOn, numbersAfter, numberedMessages, numberedBytes}
 use Rattle.numbered.proofs.Numbers.{after-append, bytes-append}
+use Rattle.numbered.proofs.Marks.{flags-joined}
 
 -- the message of the copy with sequence number n and the granted packages ps; nothing where there are none
 unfoldable pub entryBytes : Header → ℕ → List rules.Package → List ℕ
@@ -144,6 +145,20 @@ module _ (recordingBytes : List ℕ) (k : ℕ) (m : Message) (f : Met recordingB
     granted-are : grantedPackages rs it (it .packages) ≡ ps
     unfolding kept recordOf
     granted-are = granted-alike rs rs it (messageBy (m .header)) (granted-same it (messageBy (m .header)) (ap recordBits (f .flags)) (f .id) (f .seconds) (f .nanos) rs) (map packageOf (f .r .1))
+
+    -- the flags of its packages
+    granted-flags : map (granted rs it) (it .packages) ≡ flagsOf rs (messageBy (m .header)) (f .r .1)
+    unfolding flagsOf recordOf
+    granted-flags = flags-by (f .r .1)
+      where
+        flags-by : (cs : List (List ℕ)) → map (granted rs it) (map packageOf cs) ≡ map (λ c. granted rs (messageBy (m .header)) (packageOf c)) cs
+        flags-by [] = refl
+        flags-by (c ∷ cs) = ap₂ (λ (b : Bool) (l : List Bool). b ∷ l) (granted-same it (messageBy (m .header)) (ap recordBits (f .flags)) (f .id) (f .seconds) (f .nanos) rs (packageOf c)) (flags-by cs)
+
+    -- and those with the flags of the messages before it
+    pub flags-grown : (done : List messages.Message) → flagsIn rs (done ++ (it ∷ [])) ≡ flagsIn rs done ++ flagsOf rs (messageBy (m .header)) (f .r .1)
+    unfolding flagsIn
+    flags-grown done = flags-joined rs done (it ∷ []) ∙ rw (append-nil, granted-flags)
 
     pub grown-one : released rs (it ∷ []) ≡ withEntryOf it ps []
     unfolding released

@@ -154,6 +154,7 @@ module _ (run : List ℕ) (k : ℕ) (p : Package) (f : Found run k p) where
     front = omega (arith, from-is);
     content = omega (arith, from-is, to-is, is-piece .least);
     padding = omega (arith, to-is, next-is, piece-size);
+    little = omega (arith, to-is, next-is, piece-size);
     inside = still;
     short = l;
   }

@@ -192,8 +192,8 @@ module _ (ids₀ next₀ ids next : List ℕ) (held : ℕ) (ns : List Running) (
         go false t = settled-old (eqb-false place held t)
 
 -- a place that a ready id has is one of the ids and of the numbers
-pub room-for : (ids next : List ℕ) (held x : ℕ) → Ready ids next held x → (place : ℕ) → Place (take held ids) x place → (place < length ids) × (place < length next)
-room-for ids next held x r place spot = go (eqb place held) refl
+pub room-for : (ids next seen : List ℕ) (held x : ℕ) → Ready ids next seen held x → (place : ℕ) → Place (take held ids) x place → (place < length ids) × (place < length next)
+room-for ids next seen held x r place spot = go (eqb place held) refl
   where
     len : length (take held ids) ≡ held
     len = length-take-le held ids (r .ids-held)

@@ -1,12 +1,15 @@
 -- Runs of stores: one behind the other, and one before another.
-use Prim.Native.Nat.{ℕ, suc, _+_, _-_, _*_, _/_, _%_, _<_}
+use Prim.Native.Nat.{ℕ, suc, _+_, _-_, _*_, _/_, _%_, _≤_, _<_}
 use mathlib.Core.Path.{_≡_, refl, sym, ap, _∙_}
+use mathlib.Core.Bool.{Bool, true, false}
 use mathlib.Core.List.{List, [], _∷_, _++_}
 use native.Mathlib.Nat.{add-zero, add-suc, suc-add, div-div-eq-div-mul}
 use native.Mathlib.Numerals.{add-one}
 use native.Mathlib.Omega.{arith}
-use lib.ListN.{length, getD, take, drop, set, replicate, length-drop}
-use lib.Seq.{sets, set-comm, take-suc, length-take-le}
+use borrow.Author.Tests.{eqb-true, eqb-false}
+use lib.Dec.{eqb}
+use lib.ListN.{length, getD, take, drop, set, replicate, length-drop, length-replicate, replicate-append-replicate}
+use lib.Seq.{sets, set-set, set-comm, take-suc, length-take-le}
 use Rattle.rules.specs.Bytes.{put16, put32, part}
 use Rattle.rules.proofs.Loops.{sets-sets}
 use Rattle.message.specs.declared.Header.{Header}
@@ -21,6 +24,32 @@ set-sets (y ∷ ys) b i j x l = set-sets ys (set b j y) i (suc j) x (omega arith
 pub sets-before : (xs ys b : List ℕ) (i : ℕ) → sets (sets b (i + length xs) ys) i xs ≡ sets b i (xs ++ ys)
 sets-before [] ys b i = rw add-zero
 sets-before (x ∷ xs) ys b i = rw (add-suc, ← suc-add) (ap (λ (c : List ℕ). sets c (suc i) xs) (set-sets ys b i (suc i + length xs) x (omega arith)) ∙ sets-before xs ys (set b i x) (suc i))
+
+-- a store is lost under a later run of stores that goes over it
+set-lost : (xs b : List ℕ) (i j y : ℕ) → i ≤ j → j < i + length xs → sets (set b j y) i xs ≡ sets b i xs
+set-lost [] b i j y l h = absurd (omega arith)
+set-lost (x ∷ xs) b i j y l h = go (λ k. set-lost xs (set b i x) (suc i) j y k (omega arith)) (eqb j i) refl
+  where
+    go : (suc i ≤ j → sets (set (set b i x) j y) (suc i) xs ≡ sets (set b i x) (suc i) xs) → (t : Bool) → eqb j i ≡ t → sets (set (set b j y) i x) (suc i) xs ≡ sets (set b i x) (suc i) xs
+    go rest true e = rw (eqb-true j i e, set-set)
+    go rest false e =
+        let ne = eqb-false j i e in
+        ap (λ (c : List ℕ). sets c (suc i) xs) (set-comm b j i y x ne) ∙ rest (omega arith)
+
+sets-lost : (ys xs b : List ℕ) (i j : ℕ) → i ≤ j → j + length ys ≤ i + length xs → sets (sets b j ys) i xs ≡ sets b i xs
+sets-lost [] xs b i j l h = refl
+sets-lost (y ∷ ys) xs b i j l h = sets-lost ys xs (set b j y) i (suc j) (omega arith) (omega arith) ∙ set-lost xs b i j y l (omega arith)
+
+-- a zero word that is stored first: what a run of stores leaves of it stands behind the run
+zeros-left : (xs b : List ℕ) (i j z : ℕ) → z ≤ 4 → i ≤ j → j + 4 ≡ i + length xs + z → sets (sets b j (put32 0 [])) i xs ≡ sets b i (xs ++ replicate z 0)
+zeros-left xs b i j z s l e =
+    let ys : List ℕ = replicate (4 - z) 0 in
+    let zs : List ℕ = replicate z 0 in
+    let f : 4 - z + z ≡ 4 = omega arith in
+    let a : put32 0 [] ≡ ys ++ zs = sym (replicate-append-replicate (4 - z) z 0 ∙ ap (λ (n : ℕ). replicate n 0) f) in
+    let n : j + length ys ≡ i + length xs = omega (arith, length-replicate {A = ℕ} (4 - z) 0) in
+    ap (λ (w : List ℕ). sets (sets b j w) i xs) a ∙ ap (λ (c : List ℕ). sets c i xs) (sym (sets-before ys zs b j))
+    ∙ sets-lost ys xs (sets b (j + length ys) zs) i j l (omega arith) ∙ ap (λ (k : ℕ). sets (sets b k zs) i xs) n ∙ sets-before xs zs b i
 
 -- one number more is stored behind those stored from a place on
 pub put-next : (b l : List ℕ) (at i d : ℕ) → i < length l → set (sets b at (take i l)) (at + i) (getD l i d) ≡ sets b at (take (i + 1) l)
@@ -44,11 +73,11 @@ length-status l s t a b =
     let g : w % 256 ≡ s = omega arith in
     rw (e, q, f, g)
 
--- the stores of a package
+-- the stores of a package: its last word is zero first, and the data go over what is not padding
 module _ (run : List ℕ) (p : Package) (b : List ℕ) (at : ℕ) (in-place : Placed run 0 p) (half : p .length < 65536) (byte : p .status < 256) {b1 b2 b3 b4 : List ℕ}
-    (e1 : b1 ≡ sets b at (put32 (p .id .0) (put32 (p .length * 65536 + p .status) []))) (e2 : b2 ≡ sets b1 (at + 8) (put32 (p .delta) []))
-    (e3 : b3 ≡ sets b2 (at + 12) (part (p .from) (p .from + (p .to - p .from)) run))
-    (e4 : b4 ≡ sets b3 (at + 12 + (p .to - p .from)) (replicate (p .next - p .to) 0)) where
+    (e1 : b1 ≡ sets b (at + 8 + (p .next - p .from)) (put32 0 []))
+    (e2 : b2 ≡ sets b1 at (put32 (p .id .0) (put32 (p .length * 65536 + p .status) []))) (e3 : b3 ≡ sets b2 (at + 8) (put32 (p .delta) []))
+    (e4 : b4 ≡ sets b3 (at + 12) (part (p .from) (p .from + (p .to - p .from)) run)) where
   abbrev content : List ℕ
   content = part (p .from) (p .from + (p .to - p .from)) run
 
@@ -66,16 +95,14 @@ module _ (run : List ℕ) (p : Package) (b : List ℕ) (at : ℕ) (in-place : Pl
 
   stored : b4 ≡ sets b at (front (content ++ zeros))
   stored =
-      let q : at + 12 + (p .to - p .from) ≡ at + length (front content) = omega (arith, length-content) in
       e4 ∙ rw (
-        q,
         e3,
         e2,
+        sets-sets (put32 (p .id .0) (put32 (p .length * 65536 + p .status) [])) (put32 (p .delta) []) b1 at,
+        sets-sets (front []) content b1 at,
         e1,
-        sets-sets (put32 (p .id .0) (put32 (p .length * 65536 + p .status) [])) (put32 (p .delta) []) b at,
-        sets-sets (front []) content b at,
-        sets-sets (front content) zeros b at,
-      )
+      ) (zeros-left (front content) b at (at + 8 + (p .next - p .from)) (p .next - p .to) (omega (arith, in-place .little)) (omega arith)
+      (omega (arith, length-content, in-place .content, in-place .padding)))
 
   pub package-all : b4 ≡ sets b at (pieceAs run p)
   unfolding pieceAs

@@ -1,5 +1,5 @@
 -- Measuring the messages that are taken: what the loop keeps.
-use Prim.Native.Nat.{ℕ, _+_, _-_, _≤_, _<_}
+use Prim.Native.Nat.{ℕ, _+_, _-_, _*_, _≤_, _<_}
 use mathlib.Core.Path.{_≡_, refl, sym, ap, subst, _∙_}
 use mathlib.Core.Bool.{Bool, true, false}
 use mathlib.Core.List.{List, [], _∷_, _++_, map}
@@ -29,12 +29,13 @@ use Rattle.numbered.specs.declared.Progress.{Progress}
 use Rattle.numbered.specs.declared.Counted.{Counted}
 use Rattle.numbered.specs.declared.Answer.the-variants as answer
 use Rattle.numbered.specs.declared.Seats.{Seats}
-use Rattle.numbered.specs.Parts.{messageBy, withEntry, Sized, entered, Single, named, Seated, judgedBy, judgedAs}
+use Rattle.numbered.specs.Parts.{messageBy, withEntry, Sized, flagsOf, flagsIn, Tells, Measured, entered, Single, named, Seated, judgedBy, judgedAs}
 use Rattle.numbered.specs.Told.{totals, progress, measured, toldMeasure, Counts}
 use Rattle.numbered.specs.Numbering.{numbersAfter, numberedMessages, numberedBytes, idOf}
 use Rattle.numbered.specs.Quota.{Taken, takenAt, takenFrom, messageOf, bytesTaken, idsFit}
 use Rattle.numbered.proofs.Taking.{Taking, taking-start, taking-end, taking-full, taking-next, taking-bad}
-use Rattle.numbered.proofs.Entries.{Met, met, no-message, it, order, inside, behind, run-length, cut-is, it-is, it-passes, ps, id-is, grown, grown-one, totals-grown}
+use Rattle.numbered.proofs.Entries.{Met, met, no-message, it, order, inside, behind, run-length, cut-is, it-is, it-passes, ps, id-is, flags-grown, grown, grown-one, totals-grown}
+use Rattle.numbered.proofs.Marks.{flags-long, pieces-few}
 use Rattle.numbered.proofs.Messages.{few-released}
 use Rattle.numbered.proofs.States.{length-map}
 use Rattle.numbered.proofs.Ids.{after-length, ids-good}
@@ -75,12 +76,13 @@ pub record Tallying (rs : List rows.Row) (input : List ℕ) (quota : ℕ) (done 
   pub so-far : t ≡ totals (released rs (map messageOf done))
 
 -- a refusal
-module _ (rs : List rows.Row) (input : List ℕ) (quota : ℕ) (known : List ℕ) (room : ℕ) (fresh : List ℕ) (f : Refusal) (r : Counted) (is : r .answer ≡ answer.Refused f) where
+module _ (rs : List rows.Row) (input : List ℕ) (quota : ℕ) (known : List ℕ) (room : ℕ) (fresh marks : List ℕ) (f : Refusal) (r : Counted) (is : r .answer ≡ answer.Refused f) where
   not-done : (p : Progress) → r .answer ≡ answer.Done p → ⊥
   not-done p e = good≢bad (ap toldMeasure (sym is ∙ e))
 
-  counts-refused : toldMeasure (answer.Refused f) ≡ measured rs input quota known room → Counts rs input quota known room fresh r
+  counts-refused : toldMeasure (answer.Refused f) ≡ measured rs input quota known room → Counts rs input quota known room fresh marks r
   counts-refused e = record {
+    marked = record { tells = λ p d. absurd (not-done p d) };
     told = ap toldMeasure is ∙ e;
     small = λ p d. absurd (not-done p d);
     few = λ p d. absurd (not-done p d);
@@ -88,18 +90,27 @@ module _ (rs : List rows.Row) (input : List ℕ) (quota : ℕ) (known : List ℕ
   }
 
 module _ (rs : List rows.Row) (input : List ℕ) (quota : ℕ) (known : List ℕ) (room : ℕ) where
-  -- and their ids were counted, where they could become too many
-  pub record Measuring (t : Totals) (handled : ℕ) (fresh : List ℕ) (seats : Seats) (k : ℕ) : Type 0 where
+  -- and their ids were counted, where they could become too many; of each of their packages it is marked whether it is granted
+  pub record Measuring (t : Totals) (handled : ℕ) (fresh : List ℕ) (seats : Seats) (marks : List ℕ) (passed k : ℕ) : Type 0 where
     pub done : List Taken
+    pub marked : Tells marks (flagsIn rs (map messageOf done))
+    pub passed-are : length (flagsIn rs (map messageOf done)) ≡ passed
+    pub passed-few : 12 * passed ≤ k
+    pub marks-long : length marks ≡ 683
     pub tally : Tallying rs input quota done t handled k
     pub long : length fresh ≡ 64
     pub counted : room ≤ 64 → Seating rs known room fresh seats done
     pub idle : 64 < room → seats .many ≡ 0
 
-  pub measure-start : (fresh : List ℕ) → length fresh ≡ 64 → Single known → Measuring (record { bytes = 0; messages = 0; packages = 0 }) 0 fresh (record { many = 0; over = 0 }) 0
-  unfolding released numberedBytes numberedMessages packagesIn bytesTaken
-  measure-start fresh long single = record {
+  pub measure-start : (fresh marks : List ℕ) → length fresh ≡ 64 → Single known → length marks ≡ 683 → Tells marks []
+      → Measuring (record { bytes = 0; messages = 0; packages = 0 }) 0 fresh (record { many = 0; over = 0 }) marks 0 0
+  unfolding released numberedBytes numberedMessages packagesIn bytesTaken flagsIn
+  measure-start fresh marks long single marks-long none = record {
     done = [];
+    marked = none;
+    passed-are = refl;
+    passed-few = omega arith;
+    marks-long = marks-long;
     tally = record {
       doing = taking-start input quota;
       inside = omega arith;
@@ -115,7 +126,7 @@ module _ (rs : List rows.Row) (input : List ℕ) (quota : ℕ) (known : List ℕ
     idle = λ l. refl;
   }
 
-  module _ (short : length input ≤ 65536) (t : Totals) (handled : ℕ) (fresh : List ℕ) (seats : Seats) (k : ℕ) (inv : Measuring t handled fresh seats k) where
+  module _ (short : length input ≤ 65536) (t : Totals) (handled : ℕ) (fresh : List ℕ) (seats : Seats) (marks : List ℕ) (passed k : ℕ) (inv : Measuring t handled fresh seats marks passed k) where
     abbrev tally : Tallying rs input quota (inv .done) t handled k
     tally = inv .tally
 
@@ -164,8 +175,9 @@ module _ (rs : List rows.Row) (input : List ℕ) (quota : ℕ) (known : List ℕ
           go true o q = absurd (good≢bad (ap toldMeasure q))
           go false o q = (ltb-false room (seats .many) o, good-inj (ap toldMeasure q))
 
-      counts : Counts rs input quota known room fresh (record { answer = judgedAs (progress handled k t) seats room; many = seats .many })
+      counts : Counts rs input quota known room fresh marks (record { answer = judgedAs (progress handled k t) seats room; many = seats .many })
       counts = record {
+        marked = record { tells = λ p e ts read. subst (λ (x : List Taken). Tells marks (flagsIn rs (map messageOf x))) (good-inj (sym all ∙ read)) (inv .marked) };
         told = judged-with (ltb room (seats .many)) refl;
         small = λ p e. omega (arith, ap (λ (x : Progress). x .bytes) (judged-done p e .1), tally .bounds .small, tally .inside, short);
         few = λ p e. judged-done p e .0;
@@ -173,11 +185,11 @@ module _ (rs : List rows.Row) (input : List ℕ) (quota : ℕ) (known : List ℕ
       }
 
     module _ (wide : 64 < room → 1820 ≤ room) (r : Counted) (is : r ≡ record { answer = judgedAs (progress handled k t) seats room; many = seats .many }) where
-      pub measure-ended : length input ≤ k → Counts rs input quota known room fresh r
-      measure-ended l = subst (Counts rs input quota known room fresh) (sym is) (counts wide (taking-end input quota (inv .done) k (tally .doing) l))
+      pub measure-ended : length input ≤ k → Counts rs input quota known room fresh marks r
+      measure-ended l = subst (Counts rs input quota known room fresh marks) (sym is) (counts wide (taking-end input quota (inv .done) k (tally .doing) l))
 
-      pub measure-full : handled ≡ quota → Counts rs input quota known room fresh r
-      measure-full e = subst (Counts rs input quota known room fresh) (sym is) (counts wide (taking-full input quota (inv .done) k (tally .doing) (sym (tally .many) ∙ e)))
+      pub measure-full : handled ≡ quota → Counts rs input quota known room fresh marks r
+      measure-full e = subst (Counts rs input quota known room fresh marks) (sym is) (counts wide (taking-full input quota (inv .done) k (tally .doing) (sym (tally .many) ∙ e)))
 
     -- the id of a message more is once among those known, and among the fresh ones
     pub fresh-once : (x : ℕ) → room ≤ 64 → seats .many ≤ room → count x (take (seats .many) fresh) ≤ 1
@@ -193,8 +205,8 @@ module _ (rs : List rows.Row) (input : List ℕ) (quota : ℕ) (known : List ℕ
           let b : takenFrom input quota ≡ bad (numberOf (f .why)) (f .place) = taking-bad input quota (inv .done) k (tally .doing) l left (stop _ _ (no-message input k short f e)) in
           sym (pass _ _ _ _ (le-ltb 65536 (length input) short) (stop _ _ b))
 
-      pub measure-refused : (f : Refusal) (r : Counted) → r .answer ≡ answer.Refused f → toldMessage (M.Refused f) ≡ messageAt input k → Counts rs input quota known room fresh r
-      measure-refused f r a e = counts-refused rs input quota known room fresh f r a (refused-told f e)
+      pub measure-refused : (marks′ : List ℕ) (f : Refusal) (r : Counted) → r .answer ≡ answer.Refused f → toldMessage (M.Refused f) ≡ messageAt input k → Counts rs input quota known room fresh marks′ r
+      measure-refused marks′ f r a e = counts-refused rs input quota known room fresh marks′ f r a (refused-told f e)
 
       module _ (m : Message) (e : toldMessage (M.Message m) ≡ messageAt input k) where
         abbrev g : Met input k m
@@ -203,7 +215,23 @@ module _ (rs : List rows.Row) (input : List ℕ) (quota : ℕ) (known : List ℕ
         abbrev one : Taken
         one = taken input k m g
 
-        module _ (s : Size) (z : Sized rs (messageBy (m .header)) (take (m .next - m .payload) (drop (m .payload) input)) s) where
+        module _ (marks′ : List ℕ) (s : Size) (y : Measured rs input marks marks′ passed m s) where
+          abbrev z : Sized rs (messageBy (m .header)) (take (m .next - m .payload) (drop (m .payload) input)) s
+          z = y .sized
+
+          -- its flags
+          marks-grown : flagsIn rs (map messageOf (inv .done ++ (one ∷ []))) ≡ flagsIn rs (map messageOf (inv .done)) ++ flagsOf rs (messageBy (m .header)) (g .r .1)
+          marks-grown = ap (flagsIn rs) (map-append messageOf (inv .done) (one ∷ [])) ∙ flags-grown input k m g rs (map messageOf (inv .done))
+
+          passed-grown : length (flagsIn rs (map messageOf (inv .done ++ (one ∷ [])))) ≡ passed + m .packages
+          passed-grown =
+              ap length marks-grown
+              ∙ omega (arith, length-append (flagsIn rs (map messageOf (inv .done))) (flagsOf rs (messageBy (m .header)) (g .r .1)), flags-long rs (messageBy (m .header)) (g .r .1), inv .passed-are, y .many (g .r .1) (cut-is input k m g))
+
+          -- a package takes 12 bytes at least
+          pub packages-few : 12 * m .packages ≤ m .next - m .payload
+          packages-few = omega (arith, y .many (g .r .1) (cut-is input k m g), pieces-few _ (g .r .1) (cut-is input k m g), run-length input k m g)
+
           tally-next : Tallying rs input quota (inv .done ++ (one ∷ [])) (withEntry t s) (handled + 1) (m .next)
           tally-next =
               let (b, p) = z .right (g .r .1) (cut-is input k m g) in
@@ -237,9 +265,13 @@ module _ (rs : List rows.Row) (input : List ℕ) (quota : ℕ) (known : List ℕ
                 more-seated rs known room fresh seats (inv .done) (inv .counted c) c (inv .long) one (m .header .id .0) (s .packages) fresh′ seats′ seated u
                 (more-with c u (ps input k m g rs) (grown-one input k m g rs) (z .right (g .r .1) (cut-is input k m g) .1))
 
-            pub measure-next : Measuring (withEntry t s) (handled + 1) fresh′ seats′ (m .next)
-            measure-next = record {
+            pub measure-next : length marks′ ≡ length marks → Measuring (withEntry t s) (handled + 1) fresh′ seats′ marks′ (passed + m .packages) (m .next)
+            measure-next same = record {
               done = inv .done ++ (one ∷ []);
+              marked = rw marks-grown (y .marked (g .r .1) (cut-is input k m g) (flagsIn rs (map messageOf (inv .done))) (inv .passed-are) (inv .marked));
+              passed-are = passed-grown;
+              passed-few = omega (arith, inv .passed-few, packages-few, order input k m g, behind input k m g);
+              marks-long = same ∙ inv .marks-long;
               tally = tally-next;
               long = seated .long ∙ inv .long;
               counted = λ c. seating-next c (ltb room (seats .many)) refl;
@@ -247,7 +279,7 @@ module _ (rs : List rows.Row) (input : List ℕ) (quota : ℕ) (known : List ℕ
             }
 
 -- an input that is too long
-pub large : (rs : List rows.Row) (input : List ℕ) (quota : ℕ) (known : List ℕ) (room : ℕ) (fresh : List ℕ) (r : Counted) → r .answer ≡ answer.Refused (record { why = Large; place = 65536 }) → 65536 < length input
-    → Counts rs input quota known room fresh r
+pub large : (rs : List rows.Row) (input : List ℕ) (quota : ℕ) (known : List ℕ) (room : ℕ) (fresh marks : List ℕ) (r : Counted) → r .answer ≡ answer.Refused (record { why = Large; place = 65536 }) → 65536 < length input
+    → Counts rs input quota known room fresh marks r
 unfolding measured
-large rs input quota known room fresh r is l = counts-refused rs input quota known room fresh (record { why = Large; place = 65536 }) r is (sym (halt _ _ _ _ (lt-ltb 65536 (length input) l)))
+large rs input quota known room fresh marks r is l = counts-refused rs input quota known room fresh marks (record { why = Large; place = 65536 }) r is (sym (halt _ _ _ _ (lt-ltb 65536 (length input) l)))

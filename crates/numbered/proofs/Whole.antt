@@ -1,6 +1,6 @@
 -- The copy whole: a law for each of its answers.
 use Prim.Native.Nat.{ℕ, zero, suc, _+_, _-_, _≤_, _<_}
-use mathlib.Core.Path.{_≡_, refl, sym, ap, _∙_}
+use mathlib.Core.Path.{_≡_, refl, sym, ap, subst, _∙_}
 use mathlib.Core.Logic.{_⊎_, ⊎-elim}
 use mathlib.Core.Bool.{Bool, true, false, _&&_}
 use mathlib.Core.List.{List, [], _∷_, _++_, map}
@@ -32,8 +32,8 @@ use Rattle.numbered.specs.declared.Answer.{Answer}
 use Rattle.numbered.specs.declared.Answer.the-variants as answer
 use Rattle.numbered.specs.Numbering.{Running, numbersAfter, numberedBytes, beside, State, runningIn, idOf, nextOf, holding}
 use Rattle.numbered.specs.Quota.{badIds, Taken, takenFrom, messageOf, bytesTaken, idsFit, delivering, measuring, Report, reported, numberedCopy, settled, shorter, mostIn}
-use Rattle.numbered.specs.Parts.{sheetOf, named, Single, Roomy, Wrote, knownOf, roomOf, Most, refusedIds}
-use Rattle.numbered.specs.Told.{totals, progress, measured, toldMeasure, report, stateOf, told}
+use Rattle.numbered.specs.Parts.{sheetOf, named, flagsIn, Tells, Marked, Single, Roomy, Wrote, knownOf, roomOf, Most, refusedIds}
+use Rattle.numbered.specs.Told.{totals, progress, measured, toldMeasure, MarkedBy, report, stateOf, told}
 use Rattle.numbered.proofs.Messages.{First, first-taken, few-released}
 use Rattle.numbered.proofs.States.{beside-ids, beside-length, length-map, sets-same, good-few, good-single}
 use Rattle.numbered.proofs.Twice.{twice-once}
@@ -311,6 +311,10 @@ module _ (input sheetBytes : List ℕ) (quota : ℕ) (ids next : List ℕ) (held
         next-room = omega (arith, numbers-few, next-many good-ids);
         few = omega (arith, numbers-few, w .small);
       }
+
+      -- bits that tell of what is taken tell of what is written
+      pub marked-part : (marks : List ℕ) (r : Answer) → r ≡ answer.Done p → MarkedBy rs input quota marks r → Marked rs (take (p .consumed) input) marks
+      marked-part marks r d b = record { tells = λ ms q. subst (λ (x : List Message). Tells marks (flagsIn rs x)) (good-inj (sym part-read ∙ q)) (b .tells p d (m .taken) (m .read)) }
 
   module _ (rs : List rows.Row) (valid : rows.sheet sheetBytes ≡ good rs) where
     -- messages that are refused

@@ -4,22 +4,35 @@ use mathlib.Core.Path.{_≡_}
 use mathlib.Core.Bool.{Bool, true, false}
 use mathlib.Core.List.{List, [], _∷_, _++_, map}
 use lib.Dec.{ltb, eqb}
-use lib.ListN.{length, getD, take, set, replicate}
+use lib.ListN.{length, getD, take, drop, set, replicate}
 use lib.Seq.{sets}
-use Rattle.rules.specs.Outcome.{good}
+use Rattle.rules.specs.Outcome.{good, bad, PACKAGE}
 use Rattle.rules.specs.Bytes.{put16, put32, part, join}
 use Rattle.rules.specs.Packages as rules
 use Rattle.rules.specs.Packages.{cut, packageOf, pieceOf}
 use Rattle.rules.specs.Items.{items, count}
+use Rattle.rules.specs.Options.{countSaid, differs}
 use Rattle.rules.specs.Message.{recordBits, Message, message}
+use Rattle.rules.specs.Reading.{messageAt}
 use Rattle.rules.specs.Sheet as rows
-use Rattle.rules.specs.Copy.{grantedPackages, released}
+use Rattle.rules.specs.Copy.{granted, grantedPackages, released}
+use Rattle.wire.specs.Bits.{bitAt, withBit}
+use Rattle.refusal.specs.declared.Why.the-variants as why
 use Rattle.refusal.specs.declared.Why.the-variants.{Ids}
 use Rattle.message.specs.declared.Header.{Header}
 use Rattle.message.specs.declared.Package.{Package}
+use Rattle.message.specs.declared.Front.{Front}
+use Rattle.message.specs.declared.Message as found
+use Rattle.message.specs.declared.MessageRead.{MessageRead}
+use Rattle.message.specs.declared.MessageRead.the-variants as read
+use Rattle.message.specs.Answers.{toldMessage}
 use Rattle.sheet.specs.declared.Row.{Row}
 use Rattle.sheet.specs.Rows.{rowIn}
 use Rattle.numbered.specs.declared.Size.{Size}
+use Rattle.numbered.specs.declared.Walked.{Walked}
+use Rattle.numbered.specs.declared.MessageTaken.{MessageTaken}
+use Rattle.numbered.specs.declared.MessageTaken.the-variants as taking
+use Rattle.numbered.specs.declared.Kept.{Kept}
 use Rattle.numbered.specs.declared.Totals.{Totals}
 use Rattle.numbered.specs.declared.Progress.{Progress}
 use Rattle.numbered.specs.declared.Answer.{Answer}
@@ -32,6 +45,28 @@ use Rattle.numbered.specs.Numbering.{Running, countedOn, numbersAfter, n
 -- the first n rows, as the rules have them
 abbrev pub sheetOf : List Row → ℕ → List rows.Row
 sheetOf rs n = map rowIn (take n rs)
+
+-- the rows whose numbers a table has, seven for each (sheet's `tableOf`); fewer than seven are no row
+unfoldable pub rowsIn : List ℕ → List rows.Row
+rowsIn (a ∷ b ∷ c ∷ d ∷ s ∷ e ∷ acquired ∷ table) = record {
+  firstMessage = a;
+  lastMessage = b;
+  firstPackage = c;
+  lastPackage = d;
+  startSeconds = s / 1000000000;
+  startNanos = s % 1000000000;
+  endSeconds = e / 1000000000;
+  endNanos = e % 1000000000;
+  spare = 0;
+  acquiredOnly = eqb acquired 1;
+} ∷ rowsIn table
+rowsIn [] = []
+rowsIn (a ∷ []) = []
+rowsIn (a ∷ b ∷ []) = []
+rowsIn (a ∷ b ∷ c ∷ []) = []
+rowsIn (a ∷ b ∷ c ∷ d ∷ []) = []
+rowsIn (a ∷ b ∷ c ∷ d ∷ e ∷ []) = []
+rowsIn (a ∷ b ∷ c ∷ d ∷ e ∷ f ∷ []) = []
 
 -- a message with this header: a grant depends on its id, its time and its flag bit 3 alone
 abbrev pub messageBy : Header → Message
@@ -56,6 +91,73 @@ pub record Sized (rs : List rows.Row) (m : Message) (run : List ℕ) (r : Size) 
   pub few : r .packages ≤ length run
   pub right : (cs : List (List ℕ)) → cut 0 run ≡ good cs → (r .bytes ≡ length (payloadOf (kept rs m cs))) × (r .packages ≡ length (kept rs m cs))
 
+-- of each piece of message m, whether it is granted
+unfoldable pub flagsOf : List rows.Row → Message → List (List ℕ) → List Bool
+flagsOf rs m cs = map (λ c. granted rs m (packageOf c)) cs
+
+-- the same for all packages of messages, one behind the other
+unfoldable pub flagsIn : List rows.Row → List Message → List Bool
+flagsIn rs [] = []
+flagsIn rs (m ∷ ms) = map (granted rs m) (m .packages) ++ flagsIn rs ms
+
+-- bits tell flags: bit i is flag i, and behind the last all are 0
+pub record Tells (marks : List ℕ) (fs : List Bool) : Type 0 where
+  pub each : (i : ℕ) → i < length fs → eqb (bitAt marks i) 1 ≡ getD fs i false
+  pub rest : (i : ℕ) → length fs ≤ i → bitAt marks i ≡ 0
+
+-- bits tell of each package of an input that passes whether it is granted
+pub record Marked (rs : List rows.Row) (input marks : List ℕ) : Type 0 where
+  pub tells : (ms : List Message) → items message 0 0 input ≡ good ms → Tells marks (flagsIn rs ms)
+
+-- r walked over these pieces of a run, which are all of it if it comes to its end; otherwise no package stands there. It says what is granted of them, and behind
+-- the flags that were marked before stand theirs
+pub record WalkedOver (rs : List rows.Row) (m : Message) (run marks marks′ : List ℕ) (first : ℕ) (r : Walked) : Type 0 where
+  pub pieces : List (List ℕ)
+  pub inside : r .end ≤ length run
+  pub small : r .size .bytes ≤ length run
+  pub few : r .size .packages ≤ length run
+  pub many : r .all ≡ length pieces
+  pub whole : length run ≤ r .end → cut 0 run ≡ good pieces
+  pub broken : r .end < length run → cut 0 run ≡ bad PACKAGE (r .end)
+  pub bytes : r .size .bytes ≡ length (payloadOf (kept rs m pieces))
+  pub packages : r .size .packages ≡ length (kept rs m pieces)
+  pub marked : (fs : List Bool) → length fs ≡ first → Tells marks fs → Tells marks′ (fs ++ flagsOf rs m pieces)
+
+-- the message, once its packages were walked over: that they end before its payload does, or are not as many as it says, is told here
+abbrev pub finishedBy : Bool → Bool → ℕ → Front → Walked → MessageTaken
+finishedBy true c at m w = taking.Refused (record { why = why.Package; place = m .payload + w .end })
+finishedBy false true at m w = taking.Refused (record { why = why.Count; place = at })
+finishedBy false false at m w = taking.Message (record { header = m .header; payload = m .payload; next = m .next; packages = w .all }) (w .size)
+
+abbrev pub finished : List ℕ → ℕ → Front → Walked → MessageTaken
+finished input at m w =
+    finishedBy (ltb (w .end) (m .next - m .payload)) (differs (countSaid (take (at + 24 + m .header .run - (at + 24)) (drop (at + 24) input))) (w .all)) at m w
+
+-- what was read, whatever is granted of it
+abbrev pub readOf : MessageTaken → MessageRead
+readOf (taking.Message m s) = read.Message m
+readOf (taking.Refused f) = read.Refused f
+
+-- the payload of a message that was read, and the pieces that it is cut into
+abbrev pub runOf : List ℕ → found.Message → List ℕ
+runOf input m = take (m .next - m .payload) (drop (m .payload) input)
+
+-- s is what is granted of message m, and the flags of its packages stand behind those that were marked before
+pub record Measured (rs : List rows.Row) (input marks marks′ : List ℕ) (first : ℕ) (m : found.Message) (s : Size) : Type 0 where
+  pub sized : Sized rs (messageBy (m .header)) (runOf input m) s
+  pub many : (cs : List (List ℕ)) → cut 0 (runOf input m) ≡ good cs → m .packages ≡ length cs
+  pub marked : (cs : List (List ℕ)) → cut 0 (runOf input m) ≡ good cs → (fs : List Bool) → length fs ≡ first → Tells marks fs
+      → Tells marks′ (fs ++ flagsOf rs (messageBy (m .header)) cs)
+
+abbrev pub MeasuredIn : List rows.Row → List ℕ → List ℕ → List ℕ → ℕ → MessageTaken → Type 0
+MeasuredIn rs input marks marks′ first (taking.Message m s) = Measured rs input marks marks′ first m s
+MeasuredIn rs input marks marks′ first (taking.Refused f) = Unit {0}
+
+-- the message at this place is read and measured
+pub record Took (rs : List rows.Row) (input : List ℕ) (at : ℕ) (marks marks′ : List ℕ) (first : ℕ) (r : MessageTaken) : Type 0 where
+  pub told : toldMessage (readOf r) ≡ messageAt input at
+  pub measured : MeasuredIn rs input marks marks′ first r
+
 -- one message more, if something of it is granted
 abbrev pub entered : Totals → Size → Bool → Totals
 entered t s true = t
@@ -73,6 +175,7 @@ pub record Placed (run : List ℕ) (k : ℕ) (p : Package) : Type 0 where
   pub front : k ≤ p .from
   pub content : p .from ≤ p .to
   pub padding : p .to ≤ p .next
+  pub little : p .next ≤ p .to + 3
   pub inside : p .next ≤ length run
   pub short : length run ≤ 65536
 
@@ -85,10 +188,16 @@ pub record Stored (before after : List ℕ) (at next : ℕ) (granted : Bool) (pi
   pub bytes : after ≡ sets before at (onlyIf granted piece)
   pub behind : next ≡ elim granted [ true ↦ at + size | false ↦ at ]
 
--- the granted packages of a run that can be cut are stored, r bytes of them
-pub record StoredRun (rs : List rows.Row) (m : Message) (run before after : List ℕ) (at r : ℕ) : Type 0 where
-  pub small : r ≤ length run
-  pub right : (cs : List (List ℕ)) → cut 0 run ≡ good cs → (r ≡ length (payloadOf (kept rs m cs))) × (after ≡ sets before at (payloadOf (kept rs m cs)))
+-- the packages of pieces that are marked, the first by the mark `first`
+unfoldable pub picked : List ℕ → ℕ → List (List ℕ) → List rules.Package
+picked marks first [] = []
+picked marks first (c ∷ cs) = elim (eqb (bitAt marks first) 1) [ true ↦ packageOf c ∷ picked marks (first + 1) cs | false ↦ picked marks (first + 1) cs ]
+
+-- of a run that can be cut the packages that `keep` keeps are stored; r says their bytes, and how many packages the run has
+pub record StoredRun (keep : List (List ℕ) → List rules.Package) (run before after : List ℕ) (at : ℕ) (r : Kept) : Type 0 where
+  pub small : r .bytes ≤ length run
+  pub few : r .all ≤ length run
+  pub right : (cs : List (List ℕ)) → cut 0 run ≡ good cs → (r .bytes ≡ length (payloadOf (keep cs))) × (after ≡ sets before at (payloadOf (keep cs))) × (r .all ≡ length cs)
 
 -- the header of a message of the copy
 unfoldable pub headBytes : Header → ℕ → ℕ → List ℕ
@@ -100,6 +209,14 @@ pub record Place (l : List ℕ) (x r : ℕ) : Type 0 where
   pub inside : r ≤ length l
   pub hit : r < length l → getD l r 0 ≡ x
   pub miss : r ≡ length l → count x l ≡ 0
+
+-- where an id's bit stands
+abbrev pub slotOf : ℕ → ℕ
+slotOf id = id % 4096
+
+-- an id whose bit is not set is none of these
+pub record Sees (seen ids : List ℕ) : Type 0 where
+  pub none : (x : ℕ) → bitAt seen (slotOf x) ≡ 0 → count x ids ≡ 0
 
 -- how many ids are held with the one at this place: one more, if it is the place behind them
 abbrev pub oneMore : ℕ → Bool → ℕ
@@ -117,8 +234,9 @@ numberFor next place false = getD next place 0
 abbrev pub numberAt : List ℕ → ℕ → ℕ → ℕ
 numberAt next place held = numberFor next place (eqb place held)
 
--- the ids held, each once, leave room for this one
-pub record Ready (ids next : List ℕ) (held id : ℕ) : Type 0 where
+-- the ids held, each once, leave room for this one, and each has its bit
+pub record Ready (ids next seen : List ℕ) (held id : ℕ) : Type 0 where
+  pub sees : Sees seen (take held ids)
   pub small : held ≤ 65536
   pub ids-held : held ≤ length ids
   pub next-held : held ≤ length next
@@ -136,8 +254,9 @@ pub record Entered (h : Header) (bytes : ℕ) (before after ids ids′ next next
   pub reached : r ≡ record { to = done .to + (24 + bytes); held = heldWith (done .held) place }
 
 -- a message whose granted packages take so many bytes: without one nothing changes
-pub record Delivered (h : Header) (bytes : ℕ) (before after ids ids′ next next′ : List ℕ) (done r : Reached) : Type 0 where
-  pub none : bytes ≡ 0 → (after ≡ before) × (ids′ ≡ ids) × (next′ ≡ next) × (r ≡ done)
+pub record Delivered (h : Header) (bytes : ℕ) (before after ids ids′ next next′ seen seen′ : List ℕ) (done r : Reached) : Type 0 where
+  pub none : bytes ≡ 0 → (after ≡ before) × (ids′ ≡ ids) × (next′ ≡ next) × (seen′ ≡ seen) × (r ≡ done)
+  pub bit : (bytes ≡ 0 → ⊥) → seen′ ≡ withBit seen (slotOf (h .id .0))
   pub one : (bytes ≡ 0 → ⊥) → Entered h bytes before after ids ids′ next next′ done r
 
 -- input passes, and ids and numbers have room for all that it delivers

@@ -17,7 +17,7 @@ use Rattle.numbered.specs.declared.Numbered.{Numbered}
 use Rattle.numbered.specs.declared.Counted.{Counted}
 use Rattle.numbered.specs.Numbering.{numbersAfter, numberedBytes, State, idOf}
 use Rattle.numbered.specs.Quota.{Taken, takenFrom, messageOf, bytesTaken, idsFit, Report, settled, measuredIds}
-use Rattle.numbered.specs.Parts.{named}
+use Rattle.numbered.specs.Parts.{named, flagsIn, Tells}
 
 -- what the copy of a released list takes: its bytes do not depend on the numbers
 abbrev pub totals : List Entry → Totals
@@ -38,8 +38,13 @@ abbrev pub toldMeasure : Answer → Outcome Progress
 toldMeasure (answer.Done p) = good p
 toldMeasure (answer.Refused f) = refused f
 
+-- where it is done, bits tell of each package that is taken whether it is granted
+pub record MarkedBy (rs : List rows.Row) (input : List ℕ) (quota : ℕ) (marks : List ℕ) (r : Answer) : Type 0 where
+  pub tells : (p : Progress) → r ≡ answer.Done p → (ts : List Taken) → takenFrom input quota ≡ good ts → Tells marks (flagsIn rs (map messageOf ts))
+
 -- r tells what is measured; where it is done and all ids were counted, the fresh ones are so many, and stand first
-pub record Counts (rs : List rows.Row) (input : List ℕ) (quota : ℕ) (known : List ℕ) (room : ℕ) (fresh : List ℕ) (r : Counted) : Type 0 where
+pub record Counts (rs : List rows.Row) (input : List ℕ) (quota : ℕ) (known : List ℕ) (room : ℕ) (fresh marks : List ℕ) (r : Counted) : Type 0 where
+  pub marked : MarkedBy rs input quota marks (r .answer)
   pub told : toldMeasure (r .answer) ≡ measured rs input quota known room
   pub small : (p : Progress) → r .answer ≡ answer.Done p → p .bytes ≤ 65536
   pub few : (p : Progress) → r .answer ≡ answer.Done p → r .many ≤ room

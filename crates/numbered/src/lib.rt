@@ -4,7 +4,7 @@
 ghost use mathlib.Core.Path.{_≡_};
 ghost use mathlib.Core.List.{[]};
 ghost use mathlib.Core.Bool.{false};
-ghost use Prim.Native.Nat.{_+_, _-_, _%_, _^_, _≤_, _<_};
+ghost use Prim.Native.Nat.{_+_, _-_, _*_, _%_, _^_, _≤_, _<_};
 ghost use lib.Dec.{ltb};
 ghost use lib.ListN.{length, getD, take, drop};
 ghost use lib.Seq.{sets};
@@ -14,35 +14,48 @@ ghost use Rattle.rules.specs.Message.{isSimulated};
 ghost use Rattle.rules.specs.Items.{count};
 ghost use Rattle.sheet.specs.Rows.{someGrants};
 ghost use Rattle.numbered.specs.Quota.{badIds, someTwice, settled, measuredIds, shorter, mostIn};
-ghost use Rattle.numbered.specs.Parts.{sheetOf, messageBy, Sized, withPackage, withEntry, Placed, pieceAs, Stored, StoredRun, headBytes, Place, heldWith, numberAt, Ready, Delivered, Roomy, Wrote, Single, Seated, judgedAs, knownOf, roomOf, Most, refusedIds};
-ghost use Rattle.numbered.specs.Told.{progress, toldMeasure, measured, Counts, stateOf, told, toldIds, MeasuredIds, Copied};
+ghost use Rattle.numbered.specs.Parts.{rowsIn, messageBy, WalkedOver, finished, Took, withPackage, withEntry, Placed, pieceAs, Stored, StoredRun, picked, headBytes, Place, Sees, slotOf, heldWith, numberAt, Ready, Delivered, Roomy, Wrote, Tells, Marked, Single, Seated, judgedAs, knownOf, roomOf, Most, refusedIds};
+ghost use Rattle.numbered.specs.Told.{progress, toldMeasure, measured, Counts, MarkedBy, stateOf, told, toldIds, MeasuredIds, Copied};
+use message::Front;
+use message::FrontRead;
 use message::Header;
-use message::MessageRead;
+use message::Message;
 use message::Package;
 use message::PackageRead;
-use message::message_at;
+use message::front_at;
+use message::miscounts;
 use message::package_at;
 use message::package_time;
 use refusal::Refusal;
 use refusal::Why;
 use sheet::Row;
-use sheet::SheetAnswer;
 use sheet::Source;
+use sheet::TableAnswer;
 use sheet::in_sheet;
-use sheet::read_sheet;
+use sheet::near_grants;
+use sheet::near_rows;
+use sheet::read_table;
+use wire::bit_at;
+use wire::put_bit;
 use wire::put_part;
 use wire::put_word;
-use wire::put_zeros;
+
+// What a grant looks at of a message beside its time.
+fn source_of(h: Header) -> Source
+    ensures { λ r. ⌜ (r .mdid ≡ h .id) × (r .simulated ≡ isSimulated (h .flags)) ⌝ }
+{
+    let mdid = h.id;
+    Source {
+        mdid,
+        simulated: h.flags / 8 % 2 == 1,
+    }
+}
 
 // Whether the sheet grants package p of the message with header h.
 pub fn is_granted(h: Header, p: Package, rows: [Row; 32], n: usize) -> bool
     ensures { λ r. ⌜ r ≡ someGrants (take n rows) (h .id .0) (isSimulated (h .flags)) (p .id .0) (packageTime (h .seconds) (h .nanos) (p .delta)) ⌝ }
 {
-    let mdid = h.id;
-    let m = Source {
-        mdid,
-        simulated: h.flags / 8 % 2 == 1,
-    };
+    let m = source_of(h);
     let id = p.id;
     in_sheet(rows, n, m, id, package_time(h.seconds, h.nanos, p.delta))
 }
@@ -67,25 +80,113 @@ fn with_package(s: Size, n: usize, granted: bool) -> Size
     s
 }
 
-fn measure_packages(run: &[u8], h: Header, rows: [Row; 32], n: usize) -> Size
-    requires { ⌜ length (now run) ≤ 65536 ⌝ }
-    ensures { λ r. ⌜ Sized (sheetOf rows n) (messageBy h) (now (run .entry)) r ⌝ }
+// A walk over the packages of a run: what is granted of them, how many there are, and the place behind the last.
+struct Walked {
+    size: Size,
+    all: usize,
+    end: usize,
+}
+
+// Walks over the packages of a run, to its end or to a place where no package stands. Of each it marks whether it is granted, so that nobody asks again:
+// the first has the mark `first`. Only the rows that can grant something in this message are asked, which `near` is lent for.
+fn measure_packages(
+    run: &[u8],
+    h: Header,
+    table: &[u64],
+    near: &mut [u64],
+    marks: &mut [u8],
+    first: usize,
+) -> Walked
+    requires { ⌜ (12 * first + length (now run) ≤ 65536) × (length (now table) ≤ 224) × (length (now near) ≡ 128) × (length (now marks) ≡ 683) ⌝ }
+    ensures { λ r. ⌜ WalkedOver (rowsIn (now (table .entry))) (messageBy h) (now (run .entry)) (now (marks .entry)) (now (marks .exit)) first r ⌝ }
 {
+    let many = near_rows(table, source_of(h), near);
     let mut size = Size {
         bytes: 0,
         packages: 0,
     };
+    let mut all = 0;
     let mut at = 0;
     while at < run.len() {
         let found = package_at(run, at);
         let PackageRead::Package(p) = found else {
-            return size;
+            return Walked { size, all, end: at };
         };
         let next = p.next;
-        size = with_package(size, next - at, is_granted(h, p, rows, n));
+        let id = p.id;
+        let time = package_time(h.seconds, h.nanos, p.delta);
+        let granted = near_grants(&near[..many], id, time);
+        put_bit(marks, first + all, granted);
+        size = with_package(size, next - at, granted);
+        all += 1;
         at = next;
     }
-    size
+    Walked { size, all, end: at }
+}
+
+// A message that passes every check, and what is granted of it; or why it is refused.
+enum MessageTaken {
+    Message(Message, Size),
+    Refused(Refusal),
+}
+
+// The checks that are left once the packages of a message were walked over: that they fill its payload, and are as many as it says.
+fn finish_message(input: &[u8], at: usize, m: Front, w: Walked) -> MessageTaken
+    requires { ⌜ (length (now input) ≤ 65536) × (m .payload ≤ m .next) × (m .next ≤ length (now input)) × (at + 24 + m .header .run ≤ length (now input)) × (w .end ≤ 65536) ⌝ }
+    ensures { λ r. ⌜ r ≡ finished (now (input .entry)) at m w ⌝ }
+{
+    let h = m.header;
+    let payload = m.payload;
+    let next = m.next;
+    if w.end < next - payload {
+        return MessageTaken::Refused(Refusal {
+            why: Why::Package,
+            place: payload + w.end,
+        });
+    }
+    let from = at + 24;
+    let to = from + h.run;
+    if miscounts(&input[from..to], w.all) {
+        return MessageTaken::Refused(Refusal {
+            why: Why::Count,
+            place: at,
+        });
+    }
+    let size = w.size;
+    MessageTaken::Message(
+        Message {
+            header: h,
+            payload,
+            next,
+            packages: w.all,
+        },
+        size,
+    )
+}
+
+// The message at place `at` of an input: checked and measured in one walk over its packages.
+fn take_message(
+    input: &[u8],
+    at: usize,
+    table: &[u64],
+    near: &mut [u64],
+    marks: &mut [u8],
+    first: usize,
+) -> MessageTaken
+    requires { ⌜ (length (now input) ≤ 65536) × (12 * first ≤ at) × (length (now table) ≤ 224) × (length (now near) ≡ 128) × (length (now marks) ≡ 683) ⌝ }
+    ensures { λ r. ⌜ Took (rowsIn (now (table .entry))) (now (input .entry)) at (now (marks .entry)) (now (marks .exit)) first r ⌝ }
+{
+    let found = front_at(input, at);
+    match found {
+        FrontRead::Refused(f) => MessageTaken::Refused(f),
+        FrontRead::Front(m) => {
+            let from = m.payload;
+            let next = m.next;
+            let h = m.header;
+            let walked = measure_packages(&input[from..next], h, table, near, marks, first);
+            finish_message(input, at, m, walked)
+        }
+    }
 }
 
 // What the copy takes so far.
@@ -238,19 +339,19 @@ fn refused_count(f: Refusal) -> Counted
     }
 }
 
-// What the copy of the messages within the quota takes under these rows, where these ids are known and there is room for so many more; or why it is refused.
-// The ids that are not known are gathered in `fresh`.
+// What the copy of the messages within the quota takes under the rows of a table, where these ids are known and there is room for so many more; or why it is
+// refused. The ids that are not known are gathered in `fresh`, and `marks` tell of each package whether it is granted.
 fn count_messages(
     input: &[u8],
-    rows: [Row; 32],
-    n: usize,
+    table: &[u64],
     quota: usize,
     known: &[u32],
     room: usize,
     fresh: &mut [u32],
+    marks: &mut [u8],
 ) -> Counted
-    requires { ⌜ (length (now known) ≤ 65536) × Single (now known) × (64 < room → 1820 ≤ room) × (length (now fresh) ≡ 64) ⌝ }
-    ensures { λ r. ⌜ Counts (sheetOf rows n) (now (input .entry)) quota (now (known .entry)) room (now (fresh .exit)) r ⌝ }
+    requires { ⌜ (length (now known) ≤ 65536) × Single (now known) × (64 < room → 1820 ≤ room) × (length (now fresh) ≡ 64) × (length (now table) ≤ 224) × (length (now marks) ≡ 683) × Tells (now marks) [] ⌝ }
+    ensures { λ r. ⌜ Counts (rowsIn (now (table .entry))) (now (input .entry)) quota (now (known .entry)) room (now (fresh .exit)) (now (marks .exit)) r ⌝ }
 {
     if 65536 < input.len() {
         return refused_count(Refusal {
@@ -258,6 +359,8 @@ fn count_messages(
             place: 65536,
         });
     }
+    // Room for all 32 rows of a sheet, four numbers each.
+    let mut near = [0u64; 128];
     let mut seats = Seats { many: 0, over: 0 };
     let mut totals = Totals {
         bytes: 0,
@@ -266,23 +369,22 @@ fn count_messages(
     };
     let mut handled = 0;
     let mut at = 0;
+    let mut passed = 0;
     while at < input.len() {
         if handled == quota {
             return count_of(taken_with(handled, at, totals), seats, room);
         }
-        let found = message_at(input, at);
+        let found = take_message(input, at, table, &mut near, marks, passed);
         match found {
-            MessageRead::Message(m) => {
-                let from = m.payload;
-                let next = m.next;
+            MessageTaken::Message(m, size) => {
                 let h = m.header;
-                let size = measure_packages(&input[from..next], h, rows, n);
                 totals = with_entry(totals, size);
                 seats = seat(known, fresh, seats, room, h.id.0, size.packages, at);
                 handled += 1;
-                at = next;
+                at = m.next;
+                passed += m.packages;
             }
-            MessageRead::Refused(f) => {
+            MessageTaken::Refused(f) => {
                 return refused_count(f);
             }
         }
@@ -293,17 +395,17 @@ fn count_messages(
 // The same, without the fresh ids.
 fn measure_messages(
     input: &[u8],
-    rows: [Row; 32],
-    n: usize,
+    table: &[u64],
     quota: usize,
     known: &[u32],
     room: usize,
+    marks: &mut [u8],
 ) -> Answer
-    requires { ⌜ (length (now known) ≤ 65536) × Single (now known) × (64 < room → 1820 ≤ room) ⌝ }
-    ensures { λ r. ⌜ toldMeasure r ≡ measured (sheetOf rows n) (now (input .entry)) quota (now (known .entry)) room ⌝ }
+    requires { ⌜ (length (now known) ≤ 65536) × Single (now known) × (64 < room → 1820 ≤ room) × (length (now table) ≤ 224) × (length (now marks) ≡ 683) × Tells (now marks) [] ⌝ }
+    ensures { λ r. ⌜ (toldMeasure r ≡ measured (rowsIn (now (table .entry))) (now (input .entry)) quota (now (known .entry)) room) × MarkedBy (rowsIn (now (table .entry))) (now (input .entry)) quota (now (marks .exit)) r ⌝ }
 {
     let mut fresh = [0u32; 64];
-    let counted = count_messages(input, rows, n, quota, known, room, &mut fresh);
+    let counted = count_messages(input, table, quota, known, room, &mut fresh, marks);
     counted.answer
 }
 
@@ -324,10 +426,11 @@ fn write_package(run: &[u8], p: Package, out: &mut [u8], at: usize)
     // The length, a zero and the status are the second word.
     let second = p.length as u32 * 65536 + p.status as u32;
     let content = p.to - p.from;
+    // The last word is stored as zeros first: what the data leave of it is the padding, and no branch asks how long that is.
+    put_word(out, at + 8 + (p.next - p.from), 0);
     put_words(out, at, p.id.0, second);
     put_word(out, at + 8, p.delta);
     put_part(out, at + 12, run, p.from, content);
-    put_zeros(out, at + 12 + content, p.next - p.to);
 }
 
 // Stores it, if it is granted. It takes the bytes from place k of the run on.
@@ -349,30 +452,37 @@ fn write_granted(
     at
 }
 
-// Stores the granted packages of a run from `to` on, and says how many bytes they take.
-fn write_packages(
-    run: &[u8],
-    h: Header,
-    rows: [Row; 32],
-    n: usize,
-    out: &mut [u8],
-    to: usize,
-) -> usize
-    requires { ⌜ (length (now run) ≤ 65536) × (to ≤ 131072) ⌝ }
-    ensures { λ r. ⌜ StoredRun (sheetOf rows n) (messageBy h) (now (run .entry)) (now (out .entry)) (now (out .exit)) to r ⌝ }
+// The packages of a run that were stored: the bytes that they take, and how many packages the run has.
+struct Kept {
+    bytes: usize,
+    all: usize,
+}
+
+// Stores the packages of a run that are marked, from `to` on: the first has the mark `first`.
+fn write_packages(run: &[u8], marks: &[u8], first: usize, out: &mut [u8], to: usize) -> Kept
+    requires { ⌜ (length (now run) ≤ 65536) × (first ≤ 65536) × (to ≤ 131072) ⌝ }
+    ensures { λ r. ⌜ StoredRun (picked (now (marks .entry)) first) (now (run .entry)) (now (out .entry)) (now (out .exit)) to r ⌝ }
 {
     let mut end = to;
+    let mut all = 0;
     let mut at = 0;
     while at < run.len() {
         let found = package_at(run, at);
         let PackageRead::Package(p) = found else {
-            return end - to;
+            return Kept {
+                bytes: end - to,
+                all,
+            };
         };
         let behind = p.next;
-        end = write_granted(run, at, p, is_granted(h, p, rows, n), out, end);
+        end = write_granted(run, at, p, bit_at(marks, first + all), out, end);
+        all += 1;
         at = behind;
     }
-    end - to
+    Kept {
+        bytes: end - to,
+        all,
+    }
 }
 
 // One id more is held, if it has the place behind those held.
@@ -425,6 +535,36 @@ fn one_on(n: u32) -> u32
     n + 1
 }
 
+// An id's place among the bits that tell which ids may be held.
+fn slot_of(id: u32) -> usize
+    ensures { λ r. ⌜ r ≡ slotOf id ⌝ }
+{
+    id as usize % 4096
+}
+
+// Where an id stands among those held, or how many they are: where its bit is not set it is new, and nothing is searched.
+fn place_seen(ids: &[u32], seen: &[u8], id: u32) -> usize
+    requires { ⌜ (length (now ids) ≤ 65536) × (count id (now ids) ≤ 1) × Sees (now seen) (now ids) ⌝ }
+    ensures { λ r. ⌜ Place (now (ids .entry)) id r ⌝ }
+{
+    if bit_at(seen, slot_of(id)) {
+        return place_of(ids, id);
+    }
+    ids.len()
+}
+
+// Sets the bits of ids.
+fn see(ids: &[u32], seen: &mut [u8])
+    requires { ⌜ (length (now seen) ≡ 512) × Sees (now seen) [] ⌝ }
+    ensures { λ _. ⌜ Sees (now (seen .exit)) (now (ids .entry)) ⌝ }
+{
+    let mut i = 0;
+    while i < ids.len() {
+        put_bit(seen, slot_of(ids[i]), true);
+        i += 1;
+    }
+}
+
 // Ends a message whose granted packages are stored, in so many bytes: stores its header before them, if there is one.
 fn deliver(
     out: &mut [u8],
@@ -432,21 +572,23 @@ fn deliver(
     bytes: usize,
     ids: &mut [u32],
     next: &mut [u32],
+    seen: &mut [u8],
     done: Reached,
 ) -> Reached
-    requires { ⌜ (done .to + (24 + bytes) ≤ 65536) × ((bytes ≡ 0 → ⊥) → Ready (now ids) (now next) (done .held) (h .id .0)) ⌝ }
-    ensures { λ r. ⌜ Delivered h bytes (now (out .entry)) (now (out .exit)) (now (ids .entry)) (now (ids .exit)) (now (next .entry)) (now (next .exit)) done r ⌝ }
+    requires { ⌜ (done .to + (24 + bytes) ≤ 65536) × (length (now seen) ≡ 512) × ((bytes ≡ 0 → ⊥) → Ready (now ids) (now next) (now seen) (done .held) (h .id .0)) ⌝ }
+    ensures { λ r. ⌜ Delivered h bytes (now (out .entry)) (now (out .exit)) (now (ids .entry)) (now (ids .exit)) (now (next .entry)) (now (next .exit)) (now (seen .entry)) (now (seen .exit)) done r ⌝ }
 {
     if bytes == 0 {
         return done;
     }
     let size = 24 + bytes;
     let held = done.held;
-    let place = place_of(&ids[..held], h.id.0);
+    let place = place_seen(&ids[..held], seen, h.id.0);
     let sequence = number_at(next, place, held);
     write_head(out, done.to, h, sequence, size as u32);
     ids[place] = h.id.0;
     next[place] = one_on(sequence);
+    put_bit(seen, slot_of(h.id.0), true);
     Reached {
         to: done.to + size,
         held: held_with(held, place),
@@ -454,31 +596,43 @@ fn deliver(
 }
 
 // Writes the copy of a recording that passes, numbered on: of a message its packages first, behind the place of its header. It says how many ids are then held.
+// Nothing is asked again: `marks` tell what the table's rows grant, and the table is there for the promise alone, which says so.
 fn write_messages(
     recording: &[u8],
-    rows: [Row; 32],
-    n: usize,
+    table: &[u64],
+    marks: &[u8],
     ids: &mut [u32],
     next: &mut [u32],
     held: usize,
     out: &mut [u8],
 ) -> usize
-    requires { ⌜ (length (now recording) ≤ 65536) × Roomy (sheetOf rows n) (now recording) (now ids) (now next) held ⌝ }
-    ensures { λ r. ⌜ Wrote (sheetOf rows n) (now (recording .entry)) (now (ids .entry)) (now (ids .exit)) (now (next .entry)) (now (next .exit)) held r (now (out .entry)) (now (out .exit)) ⌝ }
+    requires { ⌜ (length (now recording) ≤ 65536) × Roomy (rowsIn (now table)) (now recording) (now ids) (now next) held × Marked (rowsIn (now table)) (now recording) (now marks) ⌝ }
+    ensures { λ r. ⌜ Wrote (rowsIn (now (table .entry))) (now (recording .entry)) (now (ids .entry)) (now (ids .exit)) (now (next .entry)) (now (next .exit)) held r (now (out .entry)) (now (out .exit)) ⌝ }
 {
+    // A bit for each slot, of which there are 4,096.
+    let mut seen = [0u8; 512];
+    see(&ids[..held], &mut seen);
     let mut reached = Reached { to: 0, held };
     let mut at = 0;
+    let mut passed = 0;
     while at < recording.len() {
-        let found = message_at(recording, at);
-        let MessageRead::Message(m) = found else {
+        let found = front_at(recording, at);
+        let FrontRead::Front(m) = found else {
             return reached.held;
         };
         let from = m.payload;
         let behind = m.next;
         let h = m.header;
-        let bytes = write_packages(&recording[from..behind], h, rows, n, out, reached.to + 24);
-        reached = deliver(out, h, bytes, ids, next, reached);
+        let kept = write_packages(
+            &recording[from..behind],
+            marks,
+            passed,
+            out,
+            reached.to + 24,
+        );
+        reached = deliver(out, h, kept.bytes, ids, next, &mut seen, reached);
         at = behind;
+        passed += kept.all;
     }
     reached.held
 }
@@ -575,8 +729,7 @@ pub struct Numbered {
 // The same under the rows of a sheet, with ids that can be held.
 fn copy_under(
     input: &[u8],
-    rows: [Row; 32],
-    n: usize,
+    table: &[u64],
     quota: usize,
     ids: &mut [u32],
     next: &mut [u32],
@@ -585,12 +738,14 @@ fn copy_under(
     out: &mut [u8],
     measured: bool,
 ) -> Numbered
-    requires { ⌜ (refusedIds measured most (now ids) held ≡ false) × Most (shorter (length (now ids)) (length (now next))) held most ⌝ }
-    ensures { λ r. ⌜ Copied (sheetOf rows n) measured most (now (input .entry)) quota (stateOf (now (ids .entry)) (now (next .entry)) held) (now (out .entry)) (told r (now (ids .exit)) (now (next .exit)) (now (out .exit))) ⌝ }
+    requires { ⌜ (refusedIds measured most (now ids) held ≡ false) × Most (shorter (length (now ids)) (length (now next))) held most × (length (now table) ≤ 224) ⌝ }
+    ensures { λ r. ⌜ Copied (rowsIn (now (table .entry))) measured most (now (input .entry)) quota (stateOf (now (ids .entry)) (now (next .entry)) held) (now (out .entry)) (told r (now (ids .exit)) (now (next .exit)) (now (out .exit))) ⌝ }
 {
     let known = known_of(held, measured);
     let room = room_of(most, held, measured);
-    let size = measure_messages(input, rows, n, quota, &ids[..known], room);
+    // A bit for each package, of which an input has 5,461 at most.
+    let mut marks = [0u8; 683];
+    let size = measure_messages(input, table, quota, &ids[..known], room, &mut marks);
     match size {
         Answer::Refused(f) => Numbered {
             answer: Answer::Refused(f),
@@ -613,7 +768,7 @@ fn copy_under(
                 };
             }
             let consumed = p.consumed;
-            let after = write_messages(&input[..consumed], rows, n, ids, next, held, out);
+            let after = write_messages(&input[..consumed], table, &marks, ids, next, held, out);
             Numbered {
                 answer: Answer::Done(p),
                 held: after,
@@ -624,8 +779,8 @@ fn copy_under(
 
 // The copy of the first `quota` messages of an input, or of all there are, under a sheet, into a buffer. The first `held` of ids are message ids, each
 // once, and beside each in `next` stands the sequence number that its next message gets; both are kept true, and what is behind them stays.
-// `measured` alone, nothing is stored, and neither ids nor room are looked at. One function for both, since the passes over the messages are fast only
-// where they are called from one place, whose rows they then need not copy.
+// `measured` alone, nothing is stored, and neither ids nor room are looked at. One function for both: what is
+// measured alone is what a copy measures first.
 pub fn copy(
     input: &[u8],
     sheet: &[u8],
@@ -648,17 +803,28 @@ pub fn copy(
             held,
         };
     }
-    let read = read_sheet(sheet);
-    let answer = read.answer;
-    if let SheetAnswer::Refused(f) = answer {
-        return Numbered {
+    let mut table = [0u64; 224];
+    let read = read_table(sheet, &mut table);
+    match read {
+        TableAnswer::Refused(f) => Numbered {
             answer: Answer::Refused(f),
             held,
-        };
+        },
+        TableAnswer::Rows(n) => {
+            let end = 7 * n;
+            copy_under(
+                input,
+                &table[..end],
+                quota,
+                ids,
+                next,
+                held,
+                most,
+                out,
+                measured,
+            )
+        }
     }
-    let rows = read.rows;
-    let n = read.count;
-    copy_under(input, rows, n, quota, ids, next, held, most, out, measured)
 }
 
 // Stores the first n of `fresh` behind the first `held` of ids.
@@ -676,18 +842,26 @@ fn put_behind(ids: &mut [u32], held: usize, fresh: &[u32], n: usize)
 // Measured under the rows of a sheet, with ids that can be held.
 fn measure_under(
     input: &[u8],
-    rows: [Row; 32],
-    n: usize,
+    table: &[u64],
     quota: usize,
     ids: &mut [u32],
     held: usize,
     most: usize,
 ) -> Numbered
-    requires { ⌜ (badIds most (now ids) held ≡ false) × (most ≤ 64) × (most ≤ length (now ids)) ⌝ }
-    ensures { λ r. ⌜ MeasuredIds (sheetOf rows n) most (now (input .entry)) quota (now (ids .entry)) held (toldIds r (now (ids .exit))) ⌝ }
+    requires { ⌜ (badIds most (now ids) held ≡ false) × (most ≤ 64) × (most ≤ length (now ids)) × (length (now table) ≤ 224) ⌝ }
+    ensures { λ r. ⌜ MeasuredIds (rowsIn (now (table .entry))) most (now (input .entry)) quota (now (ids .entry)) held (toldIds r (now (ids .exit))) ⌝ }
 {
     let mut fresh = [0u32; 64];
-    let counted = count_messages(input, rows, n, quota, &ids[..held], most - held, &mut fresh);
+    let mut marks = [0u8; 683];
+    let counted = count_messages(
+        input,
+        table,
+        quota,
+        &ids[..held],
+        most - held,
+        &mut fresh,
+        &mut marks,
+    );
     let many = counted.many;
     let answer = counted.answer;
     match answer {
@@ -720,15 +894,16 @@ pub fn measure(input: &[u8], sheet: &[u8], quota: usize, ids: &mut [u32], held: 
             held,
         };
     }
-    let read = read_sheet(sheet);
-    let answer = read.answer;
-    if let SheetAnswer::Refused(f) = answer {
-        return Numbered {
+    let mut table = [0u64; 224];
+    let read = read_table(sheet, &mut table);
+    match read {
+        TableAnswer::Refused(f) => Numbered {
             answer: Answer::Refused(f),
             held,
-        };
+        },
+        TableAnswer::Rows(n) => {
+            let end = 7 * n;
+            measure_under(input, &table[..end], quota, ids, held, most)
+        }
     }
-    let rows = read.rows;
-    let n = read.count;
-    measure_under(input, rows, n, quota, ids, held, most)
 }

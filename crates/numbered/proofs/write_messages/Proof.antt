@@ -4,50 +4,66 @@ use mathlib.Core.Path.{_≡_, sym, ap, _∙_}
 use Prim.Native.Nat.{_-_, _≤_}
 use native.Mathlib.Omega.{arith}
 use lib.ListN.{length}
-use lib.Seq.{length-sets}
-use Rattle.message.specs.declared.Message.{Message}
-use Rattle.message.specs.declared.MessageRead.the-variants as M
-use Rattle.message.specs.Answers.{toldMessage}
-use Rattle.rules.specs.Reading.{messageAt}
-use Rattle.numbered.specs.Parts.{sheetOf, Roomy}
-use Rattle.numbered.proofs.Entries.{Spots, spots}
-use Rattle.numbered.proofs.Written.{Writing, write-start, write-ended, write-refused, ready, fits, write-next, ids-same, next-same}
+use lib.Seq.{length-sets, length-take-le}
+use Rattle.message.specs.declared.Front.{Front}
+use Rattle.message.specs.declared.FrontRead.the-variants as F
+use Rattle.message.specs.Answers.{frontAt, toldFront}
+use Rattle.message.proofs.Fronts.{Fronted, fronted}
+use Rattle.numbered.specs.Parts.{rowsIn, Marked, Roomy}
+use Rattle.numbered.proofs.Marks.{sees-none}
+use Rattle.numbered.proofs.Written.{Writing, write-start, write-ended, write-refused, ready, fits, few′, write-next, ids-same, next-same}
 use Rattle.numbered.proofs.write_messages.Statement.{statement}
 use Rattle.numbered.proofs.write_messages.Tie as tie
 use Rattle.numbered.proofs.write_messages.Reads as reads
 use Rattle.numbered.proofs.write_messages.Lts as lts
-use Rattle.message.proofs.message_at.Reads as message-at
+use Rattle.numbered.proofs.see.Reads as see
+use Rattle.message.proofs.front_at.Reads as front-at
 use Rattle.numbered.proofs.write_packages.Reads as write-packages
 use Rattle.numbered.proofs.deliver.Reads as deliver
 
 abbrev Inv-loop : tie.InvT-loop
-Inv-loop recording rows n ids₀ next₀ held out₀ reached₀ at₀ ids next out reached at =
-    (length recording ≤ 65536) × Roomy (sheetOf rows n) recording ids₀ next₀ held × Writing (sheetOf rows n) recording ids₀ next₀ held out₀ out ids next reached at
+Inv-loop recording table marks ids₀ next₀ held out₀ seen₀ reached₀ at₀ passed₀ ids next out seen reached at passed =
+    (length recording ≤ 65536)
+    × Roomy (rowsIn table) recording ids₀ next₀ held
+    × Marked (rowsIn table) recording marks
+    × Writing (rowsIn table) recording ids₀ next₀ held out₀ out ids next seen reached at passed
 
 abbrev μ-loop : tie.MeasureT-loop
-μ-loop recording rows n ids₀ next₀ held out₀ reached₀ at₀ ids next out reached at = length recording - at
+μ-loop recording table marks ids₀ next₀ held out₀ seen₀ reached₀ at₀ passed₀ ids next out seen reached at passed = length recording - at
 
--- a message was read
+-- a front was read
 abbrev Read : Type 0
-Read = lts.After-h (message-at.Asked, message-at.Learnt, write-packages.Asked, write-packages.Learnt, deliver.Asked, deliver.Learnt) reads.Pre reads.Post Inv-loop μ-loop
+Read = lts.After-h (see.Asked, see.Learnt, front-at.Asked, front-at.Learnt, write-packages.Asked, write-packages.Learnt, deliver.Asked, deliver.Learnt) reads.Pre reads.Post Inv-loop μ-loop
 
-abbrev message : Read → Message
-message c = c .before .before .found .given .0 .0
+abbrev front : Read → Front
+front c = c .before .before .found .given .0 .0
 
-read : (c : Read) → toldMessage (M.Message (message c)) ≡ messageAt (c .before .before .before .before .before .before .before .before .before .before .before .args .recording .now) (c .before .before .before .before .before .before .loop .at)
-read c = ap toldMessage (sym (c .before .before .found .given .1)) ∙ c .before .before .before .before .message-at .ensures
+read : (c : Read) → toldFront (F.Front (front c)) ≡ frontAt (c .before .before .before .before .before .before .before .before .before .before .before .before .before .before .before .before .before .args .recording .now) (c .before .before .before .before .before .before .loop .at)
+read c = ap toldFront (sym (c .before .before .found .given .1)) ∙ c .before .before .before .before .front-at .ensures
 
-places : (c : Read) → Spots (c .before .before .before .before .before .before .before .before .before .before .before .args .recording .now) (c .before .before .before .before .before .before .loop .at) (message c)
-places c = spots (c .before .before .before .before .before .before .before .before .before .before .before .args .recording .now) (c .before .before .before .before .before .before .loop .inv .0) (c .before .before .before .before .before .before .loop .at) (message c) (read c)
+places : (c : Read) → Fronted (c .before .before .before .before .before .before .before .before .before .before .before .before .before .before .before .before .before .args .recording .now) (c .before .before .before .before .before .before .loop .at) (front c)
+places c = fronted (c .before .before .before .before .before .before .before .before .before .before .before .before .before .before .before .before .before .args .recording .now) (c .before .before .before .before .before .before .loop .at) (front c) (read c)
+
+slice-reshare-prefix-see : tie.Need-slice-reshare-prefix-see Inv-loop μ-loop
+slice-reshare-prefix-see c = c .before .before .before .before .before .before .pre .1 .ids-held
+
+slice-aggregate-see : tie.Need-slice-aggregate-see Inv-loop μ-loop
+slice-aggregate-see c = sym (length-take-le (c .before .before .before .before .before .before .before .args .held) (c .before .before .before .before .before .before .before .args .ids .now) (c .before .before .before .before .before .before .before .pre .1 .ids-held))
+
+slice-aggregate-see-2 : tie.Need-slice-aggregate-see-2 Inv-loop μ-loop
+slice-aggregate-see-2 c = search needs
+
+see-requires : tie.Need-see-requires Inv-loop μ-loop
+see-requires c κs = (search needs, sees-none 512)
 
 loop-holds : tie.Need-loop-holds Inv-loop μ-loop
 loop-holds c =
-    let a = c .before .before .before .before .args in
-    let p = c .before .before .before .before .pre in
-    (p .0, p .1, write-start (sheetOf (a .rows) (a .n)) (a .recording .now) (a .ids .now) (a .next .now) (a .held) (a .out .now) (p .1))
+    let a = c .before .before .before .before .before .before .before .before .before .before .args in
+    let p = c .before .before .before .before .before .before .before .before .before .before .pre in
+    (p .0, p .1, p .2, write-start (rowsIn (a .table .now)) (a .recording .now) (a .ids .now) (a .next .now) (a .held) (a .out .now) (p .1) _ (c .before .see .ensures) (search needs))
 
-message-at-requires : tie.Need-message-at-requires Inv-loop μ-loop
-message-at-requires c κs = search needs
+front-at-requires : tie.Need-front-at-requires Inv-loop μ-loop
+front-at-requires c κs = search needs
 
 enum-known-found : tie.Need-enum-known-found Inv-loop μ-loop
 enum-known-found c = search needs
@@ -58,23 +74,23 @@ enum-told c = search needs
 same-length : tie.Need-same-length Inv-loop μ-loop
 same-length c =
     let v = c .before .before .before .before .loop in
-    let a = c .before .before .before .before .before .before .before .before .before .args in
-    ids-same (sheetOf (a .rows) (a .n)) (a .recording .now) (a .ids .now) (a .next .now) (a .held) (a .out .now) (v .inv .1) (v .out) (v .ids) (v .next) (v .reached) (v .at) (v .inv .2)
+    let a = c .before .before .before .before .before .before .before .before .before .before .before .before .before .before .before .args in
+    ids-same (rowsIn (a .table .now)) (a .recording .now) (a .ids .now) (a .next .now) (a .held) (a .out .now) (v .inv .1) (v .out) (v .ids) (v .next) (v .seen) (v .reached) (v .at) (v .passed) (v .inv .3)
 
 same-length-2 : tie.Need-same-length-2 Inv-loop μ-loop
 same-length-2 c =
     let v = c .before .before .before .before .loop in
-    let a = c .before .before .before .before .before .before .before .before .before .args in
-    next-same (sheetOf (a .rows) (a .n)) (a .recording .now) (a .ids .now) (a .next .now) (a .held) (a .out .now) (v .inv .1) (v .out) (v .ids) (v .next) (v .reached) (v .at) (v .inv .2)
+    let a = c .before .before .before .before .before .before .before .before .before .before .before .before .before .before .before .args in
+    next-same (rowsIn (a .table .now)) (a .recording .now) (a .ids .now) (a .next .now) (a .held) (a .out .now) (v .inv .1) (v .out) (v .ids) (v .next) (v .seen) (v .reached) (v .at) (v .passed) (v .inv .3)
 
 same-length-3 : tie.Need-same-length-3 Inv-loop μ-loop
-same-length-3 c = ap length (c .before .before .before .before .loop .inv .2 .stored) ∙ simp length-sets
+same-length-3 c = ap length (c .before .before .before .before .loop .inv .3 .stored) ∙ simp length-sets
 
 returns : tie.Need-returns Inv-loop μ-loop
 returns c =
     let v = c .before .before .before .before .loop in
-    let a = c .before .before .before .before .before .before .before .before .before .args in
-    absurd (write-refused (sheetOf (a .rows) (a .n)) (a .recording .now) (a .ids .now) (a .next .now) (a .held) (a .out .now) (v .inv .1) (v .out) (v .ids) (v .next) (v .reached) (v .at) (v .inv .2) (v .inv .0) (search needs) (c .enum-told .given .0 .0) (ap toldMessage (sym (c .enum-told .given .1)) ∙ c .before .before .message-at .ensures))
+    let a = c .before .before .before .before .before .before .before .before .before .before .before .before .before .before .before .args in
+    absurd (write-refused (rowsIn (a .table .now)) (a .recording .now) (a .ids .now) (a .next .now) (a .held) (a .out .now) (v .inv .1) (v .out) (v .ids) (v .next) (v .seen) (v .reached) (v .at) (v .passed) (v .inv .3) (v .inv .0) (search needs) (c .enum-told .given .0 .0) (ap toldFront (sym (c .enum-told .given .1)) ∙ c .before .before .front-at .ensures))
 
 sub-write-packages : tie.Need-sub-write-packages Inv-loop μ-loop
 sub-write-packages c = places c .forth
@@ -88,57 +104,69 @@ part-write-packages-end c = places c .within
 add-write-packages : tie.Need-add-write-packages Inv-loop μ-loop
 add-write-packages c =
     let i = c .before .before .before .before .before .before .before .before .before .loop .inv in
-    omega (arith, i .2 .short, i .2 .inside, i .0)
+    omega (arith, i .3 .short, i .3 .inside, i .0)
 
 write-packages-requires : tie.Need-write-packages-requires Inv-loop μ-loop
 write-packages-requires c κs =
     let i = c .before .before .before .before .before .before .before .before .before .loop .inv in
-    (places (c .before .before .before) .small, omega (arith, i .2 .short, i .2 .inside, i .0))
+    (places (c .before .before .before) .small, omega (arith, i .3 .few, i .3 .inside, i .0), omega (arith, i .3 .short, i .3 .inside, i .0))
+
+slice-aggregate-deliver : tie.Need-slice-aggregate-deliver Inv-loop μ-loop
+slice-aggregate-deliver c = search needs
 
 deliver-requires : tie.Need-deliver-requires Inv-loop μ-loop
 deliver-requires c κs =
-    let p = c .before .before .before .before .before in
-    let h = c .before .before .before .before .before .before .before .before .before in
-    let v = c .before .before .before .before .before .before .before .before .before .before .before .before .before .before .before .loop in
-    let a = c .before .before .before .before .before .before .before .before .before .before .before .before .before .before .before .before .before .before .before .before .args in (
-      fits (sheetOf (a .rows) (a .n)) (a .recording .now) (a .ids .now) (a .next .now) (a .held) (a .out .now) (v .inv .1) (v .out) (v .ids) (v .next) (v .reached) (v .at) (v .inv .2) (v .inv .0) (search needs) (message h) (read h) _ (p .write-packages .result) (p .write-packages .ensures),
-      ready (sheetOf (a .rows) (a .n)) (a .recording .now) (a .ids .now) (a .next .now) (a .held) (a .out .now) (v .inv .1) (v .out) (v .ids) (v .next) (v .reached) (v .at) (v .inv .2) (v .inv .0) (search needs) (message h) (read h) _ (p .write-packages .result) (p .write-packages .ensures),
+    let w = c .before .before .before .before .before .before .write-packages in
+    let h = c .before .before .before .before .before .before .before .before .before .before in
+    let v = c .before .before .before .before .before .before .before .before .before .before .before .before .before .before .before .before .loop in
+    let a = c .before .before .before .before .before .before .before .before .before .before .before .before .before .before .before .before .before .before .before .before .before .before .before .before .before .before .before .args in (
+      fits (rowsIn (a .table .now)) (a .recording .now) (a .ids .now) (a .next .now) (a .held) (a .out .now) (v .inv .1) (v .out) (v .ids) (v .next) (v .seen) (v .reached) (v .at) (v .passed) (v .inv .3) (v .inv .0) (search needs) (a .marks .now) (v .inv .2) (front h) (read h) _ (w .result) (w .ensures),
+      search needs,
+      ready (rowsIn (a .table .now)) (a .recording .now) (a .ids .now) (a .next .now) (a .held) (a .out .now) (v .inv .1) (v .out) (v .ids) (v .next) (v .seen) (v .reached) (v .at) (v .passed) (v .inv .3) (v .inv .0) (search needs) (a .marks .now) (v .inv .2) (front h) (read h) _ (w .result) (w .ensures),
     )
+
+add-passed : tie.Need-add-passed Inv-loop μ-loop
+add-passed c =
+    let w = c .before .before .before .before .before .before .before .before .before .before .before .before .before .before .before .write-packages in
+    let h = c .before .before .before .before .before .before .before .before .before .before .before .before .before .before .before .before .before .before .before in
+    let v = c .before .before .before .before .before .before .before .before .before .before .before .before .before .before .before .before .before .before .before .before .before .before .before .before .before .loop in
+    let a = c .before .before .before .before .before .before .before .before .before .before .before .before .before .before .before .before .before .before .before .before .before .before .before .before .before .before .before .before .before .before .before .before .before .before .before .before .args in
+    omega (arith, v .inv .0, places h .within, few′ (rowsIn (a .table .now)) (a .recording .now) (a .ids .now) (a .next .now) (a .held) (a .out .now) (v .inv .1) (v .out) (v .ids) (v .next) (v .seen) (v .reached) (v .at) (v .passed) (v .inv .3) (v .inv .0) (search needs) (a .marks .now) (v .inv .2) (front h) (read h) _ (w .result) (w .ensures))
 
 loop-less : tie.Need-loop-less Inv-loop μ-loop
 loop-less c =
-    let s = places (c .before .before .before .before .before .before .before .before .before .before .before .before .before .before .before .before) in
+    let s = places (c .before .before .before .before .before .before .before .before .before .before .before .before .before .before .before .before .before .before .before) in
     omega (arith, s .on, s .within)
 
 loop-again : tie.Need-loop-again Inv-loop μ-loop
 loop-again c =
-    let d = c .before .before .before .before .before .before in
-    let p = c .before .before .before .before .before .before .before .before .before .before .before .before in
-    let h = c .before .before .before .before .before .before .before .before .before .before .before .before .before .before .before .before in
-    let v = c .before .before .before .before .before .before .before .before .before .before .before .before .before .before .before .before .before .before .before .before .before .before .loop in
-    let a = c .before .before .before .before .before .before .before .before .before .before .before .before .before .before .before .before .before .before .before .before .before .before .before .before .before .before .before .args in
-    (v .inv .0, v .inv .1, write-next (sheetOf (a .rows) (a .n)) (a .recording .now) (a .ids .now) (a .next .now) (a .held) (a .out .now) (v .inv .1) (v .out) (v .ids) (v .next) (v .reached) (v .at) (v .inv .2) (v .inv .0) (search needs) (message h) (read h) _ (p .write-packages .result) (p .write-packages .ensures) _ _ _ _ (d .deliver .ensures))
+    let d = c .before .before .before .before .before .before .before .before .deliver in
+    let w = c .before .before .before .before .before .before .before .before .before .before .before .before .before .before .before .write-packages in
+    let h = c .before .before .before .before .before .before .before .before .before .before .before .before .before .before .before .before .before .before .before in
+    let v = c .before .before .before .before .before .before .before .before .before .before .before .before .before .before .before .before .before .before .before .before .before .before .before .before .before .loop in
+    let a = c .before .before .before .before .before .before .before .before .before .before .before .before .before .before .before .before .before .before .before .before .before .before .before .before .before .before .before .before .before .before .before .before .before .before .before .before .args in
+    (v .inv .0, v .inv .1, v .inv .2, write-next (rowsIn (a .table .now)) (a .recording .now) (a .ids .now) (a .next .now) (a .held) (a .out .now) (v .inv .1) (v .out) (v .ids) (v .next) (v .seen) (v .reached) (v .at) (v .passed) (v .inv .3) (v .inv .0) (search needs) (a .marks .now) (v .inv .2) (front h) (read h) _ (w .result) (w .ensures) _ _ _ _ _ (d .ensures))
 
 same-length-4 : tie.Need-same-length-4 Inv-loop μ-loop
 same-length-4 c =
     let v = c .before .loop in
-    let a = c .before .before .before .before .before .before .args in
-    ids-same (sheetOf (a .rows) (a .n)) (a .recording .now) (a .ids .now) (a .next .now) (a .held) (a .out .now) (v .inv .1) (v .out) (v .ids) (v .next) (v .reached) (v .at) (v .inv .2)
+    let a = c .before .before .before .before .before .before .before .before .before .before .before .before .args in
+    ids-same (rowsIn (a .table .now)) (a .recording .now) (a .ids .now) (a .next .now) (a .held) (a .out .now) (v .inv .1) (v .out) (v .ids) (v .next) (v .seen) (v .reached) (v .at) (v .passed) (v .inv .3)
 
 same-length-5 : tie.Need-same-length-5 Inv-loop μ-loop
 same-length-5 c =
     let v = c .before .loop in
-    let a = c .before .before .before .before .before .before .args in
-    next-same (sheetOf (a .rows) (a .n)) (a .recording .now) (a .ids .now) (a .next .now) (a .held) (a .out .now) (v .inv .1) (v .out) (v .ids) (v .next) (v .reached) (v .at) (v .inv .2)
+    let a = c .before .before .before .before .before .before .before .before .before .before .before .before .args in
+    next-same (rowsIn (a .table .now)) (a .recording .now) (a .ids .now) (a .next .now) (a .held) (a .out .now) (v .inv .1) (v .out) (v .ids) (v .next) (v .seen) (v .reached) (v .at) (v .passed) (v .inv .3)
 
 same-length-6 : tie.Need-same-length-6 Inv-loop μ-loop
-same-length-6 c = ap length (c .before .loop .inv .2 .stored) ∙ simp length-sets
+same-length-6 c = ap length (c .before .loop .inv .3 .stored) ∙ simp length-sets
 
 returns-2 : tie.Need-returns-2 Inv-loop μ-loop
 returns-2 c =
     let v = c .before .loop in
-    let a = c .before .before .before .before .before .before .args in
-    write-ended (sheetOf (a .rows) (a .n)) (a .recording .now) (a .ids .now) (a .next .now) (a .held) (a .out .now) (v .inv .1) (v .out) (v .ids) (v .next) (v .reached) (v .at) (v .inv .2) (search needs)
+    let a = c .before .before .before .before .before .before .before .before .before .before .before .before .args in
+    write-ended (rowsIn (a .table .now)) (a .recording .now) (a .ids .now) (a .next .now) (a .held) (a .out .now) (v .inv .1) (v .out) (v .ids) (v .next) (v .seen) (v .reached) (v .at) (v .passed) (v .inv .3) (search needs)
 
 pub write-messages-spec : {M : Type 1} → statement M
 write-messages-spec =
@@ -146,8 +174,12 @@ write-messages-spec =
     (tie.spec
     Inv-loop
     μ-loop
+    slice-reshare-prefix-see
+    slice-aggregate-see
+    slice-aggregate-see-2
+    see-requires
     loop-holds
-    message-at-requires
+    front-at-requires
     enum-known-found
     enum-told
     same-length
@@ -159,7 +191,9 @@ write-messages-spec =
     part-write-packages-end
     add-write-packages
     write-packages-requires
+    slice-aggregate-deliver
     deliver-requires
+    add-passed
     loop-less
     loop-again
     same-length-4

@@ -20,14 +20,26 @@ add-second c = search needs
 sub-content : tie.Need-sub-content
 sub-content c = search needs
 
-put-words-requires : tie.Need-put-words-requires
-put-words-requires c κs = search needs
-
 add-put-word : tie.Need-add-put-word
 add-put-word c = search needs
 
+sub-put-word : tie.Need-sub-put-word
+sub-put-word c = search needs
+
+add-put-word-2 : tie.Need-add-put-word-2
+add-put-word-2 c = search needs
+
 put-word-requires : tie.Need-put-word-requires
 put-word-requires c κs = search needs
+
+put-words-requires : tie.Need-put-words-requires
+put-words-requires c κs = search needs
+
+add-put-word-3 : tie.Need-add-put-word-3
+add-put-word-3 c = search needs
+
+put-word-requires-2 : tie.Need-put-word-requires-2
+put-word-requires-2 c κs = search needs
 
 add-put-part : tie.Need-add-put-part
 add-put-part c = search needs
@@ -35,30 +47,15 @@ add-put-part c = search needs
 put-part-requires : tie.Need-put-part-requires
 put-part-requires c κs = search needs
 
-add-put-zeros : tie.Need-add-put-zeros
-add-put-zeros c = search needs
-
-add-put-zeros-2 : tie.Need-add-put-zeros-2
-add-put-zeros-2 c = search needs
-
-sub-put-zeros : tie.Need-sub-put-zeros
-sub-put-zeros c = search needs
-
-put-zeros-requires : tie.Need-put-zeros-requires
-put-zeros-requires c κs = search needs
-
 same-length : tie.Need-same-length
 same-length c = search needs
 
 returns : tie.Need-returns
 returns c =
-    let d = c .before .before in
-    let e = d .before .before .before .before .before in
-    let f = e .before .before .before .before in
-    let g = f .before .before .before .before in
-    let s = g .before .before .before .before .before .before .before in
-    let k = g .before .before .before .before .struct-known .given in
-    package-all (s .args .run .now) (s .args .p) (s .args .out .now) (s .args .at) (s .pre .1) (omega (arith, k .1 .0)) (omega (arith, k .1 .1 .0)) (g .put-words .ensures) (f .put-word .ensures) (e .put-part .ensures) (d .put-zeros .ensures)
+    let s = c .before .before .before .before .before .before .before .before .before .before .before .before .before .before .before .before .before .before .before .before .before .before in
+    let k = c .before .before .before .before .before .before .before .before .before .before .before .before .before .before .before .before .before .before .before .struct-known .given in
+    package-all (s .args .run .now) (s .args .p) (s .args .out .now) (s .args .at) (s .pre .1) (omega (arith, k .1 .0)) (omega (arith, k .1 .1 .0))
+    (c .before .before .before .before .before .before .before .before .before .before .before .before .before .before .put-word .ensures) (c .before .before .before .before .before .before .before .before .before .before .put-words .ensures) (c .before .before .before .before .before .before .put-word2 .ensures) (c .before .before .put-part .ensures)
 
 pub write-package-spec : {M : Type 1} → statement M
 write-package-spec =
@@ -69,14 +66,14 @@ write-package-spec =
     cast-second-2
     add-second
     sub-content
-    put-words-requires
     add-put-word
+    sub-put-word
+    add-put-word-2
     put-word-requires
+    put-words-requires
+    add-put-word-3
+    put-word-requires-2
     add-put-part
     put-part-requires
-    add-put-zeros
-    add-put-zeros-2
-    sub-put-zeros
-    put-zeros-requires
     same-length
     returns)

@@ -1,0 +1,93 @@
+-- `numbered::take_message` meets its contract: the front refused, or what is left once the packages were walked over.
+use borrow.Author.Needs.{needs}
+use mathlib.Core.Path.{_≡_, sym, ap, _∙_}
+use native.Mathlib.Omega.{arith}
+use Rattle.message.specs.declared.Front.{Front}
+use Rattle.message.specs.declared.FrontRead.the-variants as F
+use Rattle.message.specs.Answers.{toldFront, frontAt}
+use Rattle.message.proofs.Fronts.{Fronted, fronted}
+use Rattle.numbered.specs.Parts.{rowsIn}
+use Rattle.numbered.proofs.Packages.{took-refused, took-walked}
+use Rattle.numbered.proofs.take_message.Statement.{statement}
+use Rattle.numbered.proofs.take_message.Tie as tie
+use Rattle.numbered.proofs.take_message.Reads as reads
+use Rattle.numbered.proofs.take_message.Lts as lts
+use Rattle.message.proofs.front_at.Reads as front-at
+use Rattle.numbered.proofs.measure_packages.Reads as measure-packages
+use Rattle.numbered.proofs.finish_message.Reads as finish-message
+
+-- the front was read
+abbrev Read : Type 0
+Read = lts.After-h (front-at.Asked, front-at.Learnt, measure-packages.Asked, measure-packages.Learnt, finish-message.Asked, finish-message.Learnt) reads.Pre reads.Post
+
+abbrev front : Read → Front
+front c = c .before .before .found2 .given .0 .0
+
+read : (c : Read) → toldFront (F.Front (front c)) ≡ frontAt (c .before .before .before .before .before .before .before .before .before .args .input .now) (c .before .before .before .before .before .before .before .before .before .args .at)
+read c = ap toldFront (sym (c .before .before .found2 .given .1)) ∙ c .before .before .before .before .front-at .ensures
+
+places : (c : Read) → Fronted (c .before .before .before .before .before .before .before .before .before .args .input .now) (c .before .before .before .before .before .before .before .before .before .args .at) (front c)
+places c = fronted _ _ (front c) (read c)
+
+front-at-requires : tie.Need-front-at-requires
+front-at-requires c κs = search needs
+
+enum-known-found : tie.Need-enum-known-found
+enum-known-found c = search needs
+
+enum-known-found-2 : tie.Need-enum-known-found-2
+enum-known-found-2 c = search needs
+
+sub-measure-packages : tie.Need-sub-measure-packages
+sub-measure-packages c = places c .forth
+
+part-measure-packages-start : tie.Need-part-measure-packages-start
+part-measure-packages-start c = places c .forth
+
+part-measure-packages-end : tie.Need-part-measure-packages-end
+part-measure-packages-end c = places c .within
+
+measure-packages-requires : tie.Need-measure-packages-requires
+measure-packages-requires c κs =
+    let s = c .before .before .before .before .before .before .before .before .before .before .before .before in
+    let f = places (c .before .before .before) in
+    (omega (arith, f .long, f .within, f .behind, s .pre .0, s .pre .1), s .pre .2, s .pre .3, s .pre .4)
+
+finish-message-requires : tie.Need-finish-message-requires
+finish-message-requires c κs =
+    let f = places (c .before .before .before .before .before .before .before .before) in
+    (f .whole, f .forth, f .within, omega (arith, f .run, f .forth, f .within), omega (arith, c .before .before .before .before .measure-packages .ensures .inside, f .small))
+
+returns : tie.Need-returns
+returns c =
+    let a = c .before .before .before .before .before .before .before .before .args in
+    took-refused (rowsIn (a .table .now)) (a .input .now) (a .at) (a .marks .now) _ (a .first) (c .before .found .given .0 .0) (ap toldFront (sym (c .before .found .given .1)) ∙ c .before .before .before .front-at .ensures)
+
+same-length : tie.Need-same-length
+same-length c = search needs
+
+same-length-2 : tie.Need-same-length-2
+same-length-2 c = search needs
+
+returns-2 : tie.Need-returns-2
+returns-2 c =
+    let a = c .before .before .before .before .before .before .before .before .before .before .before .before .before .before .before .before .before .before .args in
+    let w = c .before .before .before .before .before .measure-packages in
+    took-walked (rowsIn (a .table .now)) (a .input .now) (a .at) (a .marks .now) _ (a .first) (front (c .before .before .before .before .before .before .before .before .before)) (read (c .before .before .before .before .before .before .before .before .before)) (w .result) (w .ensures) (c .finish-message .result) (c .finish-message .ensures)
+
+pub take-message-spec : {M : Type 1} → statement M
+take-message-spec =
+    tie.close
+    (tie.spec
+    front-at-requires
+    enum-known-found
+    enum-known-found-2
+    sub-measure-packages
+    part-measure-packages-start
+    part-measure-packages-end
+    measure-packages-requires
+    finish-message-requires
+    returns
+    same-length
+    same-length-2
+    returns-2)
