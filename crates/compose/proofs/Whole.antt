@@ -11,8 +11,8 @@ use lib.ListN.{length, take, drop, length-append}
 use lib.Seq.{sets}
 use borrow.Rule.Slice.PartMut.{putMid}
 use Rattle.rules.specs.Bytes.{put32, pad, padded, oneIfAny}
-use Rattle.rules.specs.Items.{Fills, none, more}
-use Rattle.rules.specs.Packages.{cut, packageOf, pieceOf, Piece}
+use Rattle.rules.specs.Items.{Fills}
+use Rattle.rules.specs.Packages.{cut, Piece}
 use Rattle.rules.specs.Message.{recordBits}
 use Rattle.rules.specs.Writer.{write, Draft, drafted}
 use Rattle.rules.proofs.Cut as Cut
@@ -22,13 +22,7 @@ use Rattle.rules.proofs.Loops.{sets-sets}
 use Rattle.compose.specs.Payload.{Cuts, piecesWritten, payloadOf, headerOf, flagsWith, headerBy, messageOf, sizeOf}
 use Rattle.compose.specs.declared.Record.{Record}
 use Rattle.compose.proofs.Stores.{sets-part}
-use Rattle.compose.proofs.Run.{piece-length}
-
--- the pieces written again are as long as the run
-pub piecesWritten-length : {cs : List (List ℕ)} {s : List ℕ} → Fills Piece cs s → length (piecesWritten cs) ≡ length s
-piecesWritten-length none = refl
-piecesWritten-length (more {c = c} {cs = cs} {s = s} h r) =
-    omega (arith, length-append (pieceOf (packageOf c)) (piecesWritten cs), length-append c s, piece-length c h, piecesWritten-length r)
+use Rattle.compose.proofs.Run.{piecesWritten-length}
 
 -- the flags of a message without packages, and of one with some
 pub flags-none : (flags payload : ℕ) → payload ≡ 0 → recordBits flags ≡ flagsWith flags payload

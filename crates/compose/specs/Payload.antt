@@ -1,18 +1,19 @@
 -- What is stored: a run of packages, cut and written; and the message of a draft.
-use Prim.Native.Nat.{ℕ, zero, _+_, _/_, _≤_}
+use Prim.Native.Nat.{ℕ, zero, _+_, _/_, _≤_, _<_}
 use mathlib.Core.Path.{_≡_}
 use mathlib.Core.List.{List, [], _∷_, map}
 use mathlib.Core.Bool.{true, false}
 use lib.Dec.{eqb}
-use lib.ListN.{length, drop}
+use lib.ListN.{length, take, drop}
 use lib.Seq.{sets}
-use Rattle.rules.specs.Outcome.{Outcome, good, bad}
+use Rattle.rules.specs.Outcome.{Outcome, good, bad, PACKAGE}
 use Rattle.rules.specs.Bytes.{at, half, put32, pad, part, join}
 use Rattle.rules.specs.Packages.{cut, packageOf, pieceOf}
 use Rattle.rules.specs.Message.{recordBits}
 use Rattle.rules.specs.Writer.{write, Draft, drafted}
 use Rattle.rules.specs.Buffer.{Written, stored, fitted}
 use Rattle.compose.specs.declared.Record.{Record}
+use Rattle.compose.specs.declared.Walked.{Walked}
 
 -- the run is cut into pieces
 pub record Cuts (s : List ℕ) : Type 0 where
@@ -28,10 +29,29 @@ unfoldable pub payloadOf : Outcome (List (List ℕ)) → List ℕ
 payloadOf (good cs) = piecesWritten cs
 payloadOf (bad n p) = []
 
--- the package at index i of a run is stored at index i of a buffer, and the next one begins at index e
-pub record Moved (buffer run : List ℕ) (i : ℕ) (after : List ℕ) (e : ℕ) : Type 0 where
+-- both parts of a run, which meet at index m, are cut into pieces
+pub record Halved (s : List ℕ) (m : ℕ) : Type 0 where
+  pub within : m ≤ length s
+  pub front : Cuts (take m s)
+  pub back : Cuts (drop m s)
+
+-- as far as a walk over a run came
+pub record WalkedOver (s : List ℕ) (w : Walked) : Type 0 where
+  pub pieces : List (List ℕ)
+  pub inside : w .end ≤ length s
+  pub many : w .all ≡ length pieces
+  pub whole : length s ≤ w .end → cut zero s ≡ good pieces
+  pub broken : w .end < length s → cut zero s ≡ bad PACKAGE (w .end)
+  pub halved : length s ≤ w .end → Halved s (w .mid)
+
+-- the package at index i of a run stands in a buffer that has the run from index k on
+abbrev pub Lies : List ℕ → ℕ → List ℕ → ℕ → Type 0
+Lies buffer k run i = take (pad (half (drop i run) 4)) (drop (k + i) buffer) ≡ take (pad (half (drop i run) 4)) (drop i run)
+
+-- that package is stored there, clean, and the next one begins at index e of the run
+pub record Moved (buffer : List ℕ) (k : ℕ) (run : List ℕ) (i : ℕ) (after : List ℕ) (e : ℕ) : Type 0 where
   pub end : i + pad (half (drop i run) 4) ≡ e
-  pub bytes : after ≡ sets buffer i (pieceOf (packageOf (part i e run)))
+  pub bytes : after ≡ sets buffer (k + i) (pieceOf (packageOf (part i e run)))
 
 -- the 24 bytes of a header: words, flags, id, sequence, size, seconds, nanos
 abbrev pub headerOf : ℕ → ℕ → ℕ → ℕ → ℕ → ℕ → ℕ → List ℕ

@@ -1,4 +1,4 @@
--- `compose::clean` meets its contract: what was read, refused or finished as a draft of its own parts.
+-- `compose::clean` meets its contract: what was read and walked over, refused or finished as a draft of its own parts.
 use Prim.Native.Nat.{ℕ, _≤_}
 use mathlib.Core.Path.{_≡_, ap, sym, _∙_}
 use mathlib.Core.List.{List}
@@ -7,7 +7,10 @@ use borrow.Author.Needs.{needs}
 use lib.ListN.{length}
 use Rattle.rules.specs.Outcome.{good}
 use Rattle.rules.specs.Bytes.{Bytes}
-use Rattle.message.specs.Answers.{spotOfMessage, toldMessage}
+use Rattle.message.specs.Answers.{spotOfMessage, frontAt, toldFront}
+use Rattle.message.specs.declared.Front.{Front}
+use Rattle.message.specs.declared.FrontRead.the-variants as F
+use Rattle.message.proofs.Fronts.{Fronted, fronted, front-refused}
 use Rattle.rules.specs.Message.{Message, message}
 use Rattle.rules.specs.Reading.{MessageSpot, messageAt}
 use Rattle.rules.specs.Writer.{write}
@@ -16,16 +19,22 @@ use Rattle.rules.proofs.Claims.{premises-met}
 use Rattle.compose.specs.declared.Written.{Written}
 use Rattle.compose.specs.Told.{told}
 use Rattle.compose.proofs.Claims.{Stands, promised, cleaned-again}
-use Rattle.compose.proofs.Cleaning.{Read, reads, clean-refused, clean-fits, clean-finished}
+use Rattle.compose.proofs.Cleaning.{Read, reads, clean-refused, clean-fits, clean-finished, package-refused, count-refused, walked-halves, walked-spot}
 use Rattle.compose.proofs.clean.Statement.{statement}
 use Rattle.compose.proofs.clean.Tie as tie
 
--- the message that was read, and what its reading says
+-- the front that was read, and where its parts lie
 abbrev S : tie.After-m → List ℕ
 S c = c .before .before .before .before .before .args .s .now
 
-abbrev K : tie.After-m → MessageSpot
-K c = spotOfMessage (c .m .given .0 .0)
+abbrev M : tie.After-m → Front
+M c = c .m .given .0 .0
+
+front-told : (c : tie.After-m) → toldFront (F.Front (M c)) ≡ frontAt (S c) 0
+front-told c = ap toldFront (sym (c .m .given .1)) ∙ c .before .before .front-at .ensures
+
+places : (c : tie.After-m) → Fronted (S c) 0 (M c)
+places c = fronted (S c) 0 (M c) (front-told c)
 
 -- whatever a caller hands over is bytes
 pub handed-bytes : (c : tie.After-shared-slice-known) → Bytes (c .before .args .s .now)
@@ -34,14 +43,22 @@ handed-bytes c = premises-met .bytes _ (λ k. omega (arith, c .shared-slice-know
 bytes : (c : tie.After-m) → Bytes (S c)
 bytes c = handed-bytes (c .before .before .before .before)
 
-read-told : (c : tie.After-m) → good (K c) ≡ messageAt (S c) 0
-read-told c = ap toldMessage (sym (c .m .given .1)) ∙ c .before .before .message-at .ensures
+-- the message that passed, and what its reading says
+abbrev K : tie.Else2 → MessageSpot
+K c =
+    let m = M (c .before .before .before .before .before .before .before .before .before .before) in
+    spotOfMessage (record { header = m .header; payload = m .payload; next = m .next; packages = c .before .before .before .before .before .walk .result .all })
 
-read : (c : tie.After-m) → Read (S c) (K c)
-read c = reads (S c) (K c) (bytes c) (read-told c)
+read-told : (c : tie.Else2) → good (K c) ≡ messageAt (S (c .before .before .before .before .before .before .before .before .before .before)) 0
+read-told c =
+    let m = c .before .before .before .before .before .before .before .before .before .before in
+    walked-spot (S m) (M m) (front-told m) (c .before .before .before .before .before .walk .result) (c .before .before .before .before .before .walk .ensures) (omega arith) (sym (c .before .miscounts .ensures) ∙ c .if2 .left)
 
-message-at-requires : tie.Need-message-at-requires
-message-at-requires c κs = search needs
+read : (c : tie.Else2) → Read (S (c .before .before .before .before .before .before .before .before .before .before)) (K c)
+read c = reads (S (c .before .before .before .before .before .before .before .before .before .before)) (K c) (bytes (c .before .before .before .before .before .before .before .before .before .before)) (read-told c)
+
+front-at-requires : tie.Need-front-at-requires
+front-at-requires c κs = search needs
 
 enum-known-x : tie.Need-enum-known-x
 enum-known-x c = search needs
@@ -50,58 +67,102 @@ enum-known-m : tie.Need-enum-known-m
 enum-known-m c = search needs
 
 add-end : tie.Need-add-end
-add-end c = let w = read (c .before .before .before) in omega (arith, w .short, w .run, w .inside, w .fore, w .least, w .most, w .payload, w .small)
+add-end c = let p = places (c .before .before .before) in omega (arith, p .whole, p .within, p .forth, p .behind, p .run, p .long, p .small)
+
+sub-walk : tie.Need-sub-walk
+sub-walk c = let p = places (c .before .before .before) in omega (arith, p .whole, p .within, p .forth, p .behind, p .run, p .long, p .small)
+
+part-walk-start : tie.Need-part-walk-start
+part-walk-start c = let p = places (c .before .before .before) in omega (arith, p .whole, p .within, p .forth, p .behind, p .run, p .long, p .small)
+
+part-walk-end : tie.Need-part-walk-end
+part-walk-end c = let p = places (c .before .before .before) in omega (arith, p .whole, p .within, p .forth, p .behind, p .run, p .long, p .small)
+
+walk-requires : tie.Need-walk-requires
+walk-requires c κs = places (c .before .before .before .before) .small
+
+sub-if1 : tie.Need-sub-if1
+sub-if1 c = let p = places (c .before .before .before .before .before) in omega (arith, p .whole, p .within, p .forth, p .behind, p .run, p .long, p .small)
+
+add-t19 : tie.Need-add-t19
+add-t19 c = search needs
+
+returns : tie.Need-returns
+returns c =
+    let m = c .before .before .before .before .before .before .before .before in
+    clean-refused (S m) (m .before .before .before .before .before .args .out .now) (package-refused (S m) (M m) (front-told m) (c .before .before .before .walk .result) (c .before .before .before .walk .ensures) (omega arith))
+
+sub-miscounts : tie.Need-sub-miscounts
+sub-miscounts c = search needs
+
+part-miscounts-start : tie.Need-part-miscounts-start
+part-miscounts-start c = search needs
+
+part-miscounts-end : tie.Need-part-miscounts-end
+part-miscounts-end c = let p = places (c .before .before .before .before .before .before .before) in omega (arith, p .whole, p .within, p .forth, p .behind, p .run, p .long, p .small)
+
+miscounts-requires : tie.Need-miscounts-requires
+miscounts-requires c κs = search needs
+
+returns-2 : tie.Need-returns-2
+returns-2 c =
+    let m = c .before .before .before .before .before .before .before .before .before .before in
+    clean-refused (S m) (m .before .before .before .before .before .args .out .now) (count-refused (S m) (M m) (front-told m) (c .before .before .before .before .before .walk .result) (c .before .before .before .before .before .walk .ensures) (omega arith) (sym (c .before .miscounts .ensures) ∙ c .if2 .taken))
 
 round-up-requires : tie.Need-round-up-requires
-round-up-requires c κs = let w = read (c .before .before .before) in omega (arith, w .short, w .run, w .inside, w .fore, w .least, w .most, w .payload, w .small)
+round-up-requires c κs = let w = read (c) in omega (arith, w .short, w .run, w .inside, w .fore, w .least, w .most, w .payload, w .small)
 
 add-n : tie.Need-add-n
-add-n c = let w = read (c .before .before .before .before) in omega (arith, w .short, w .run, w .inside, w .fore, w .least, w .most, w .payload, w .small)
+add-n c = let w = read (c .before) in omega (arith, w .short, w .run, w .inside, w .fore, w .least, w .most, w .payload, w .small)
 
 sub-n : tie.Need-sub-n
-sub-n c = let w = read (c .before .before .before .before) in omega (arith, w .short, w .run, w .inside, w .fore, w .least, w .most, w .payload, w .small)
+sub-n c = let w = read (c .before) in omega (arith, w .short, w .run, w .inside, w .fore, w .least, w .most, w .payload, w .small)
 
 add-n-2 : tie.Need-add-n-2
-add-n-2 c = let w = read (c .before .before .before .before) in omega (arith, w .short, w .run, w .inside, w .fore, w .least, w .most, w .payload, w .small)
+add-n-2 c = let w = read (c .before) in omega (arith, w .short, w .run, w .inside, w .fore, w .least, w .most, w .payload, w .small)
 
 record-of-requires : tie.Need-record-of-requires
 record-of-requires c κs = search needs
 
 sub-finish : tie.Need-sub-finish
-sub-finish c = let w = read (c .before .before .before .before .before) in omega (arith, w .inside, w .fore, w .least, w .most)
+sub-finish c = search needs
 
 part-finish-start : tie.Need-part-finish-start
-part-finish-start c = let w = read (c .before .before .before .before .before) in omega (arith, w .inside, w .fore, w .least, w .most)
+part-finish-start c = search needs
 
 part-finish-end : tie.Need-part-finish-end
-part-finish-end c = let w = read (c .before .before .before .before .before) in omega (arith, w .short, w .run, w .inside, w .fore, w .least, w .most, w .payload, w .small)
+part-finish-end c = let w = read (c .before .before) in omega (arith, w .short, w .run, w .inside, w .fore, w .least, w .most, w .payload, w .small)
 
 sub-finish-2 : tie.Need-sub-finish-2
-sub-finish-2 c = let w = read (c .before .before .before .before .before .before) in omega (arith, w .short, w .run, w .inside, w .fore, w .least, w .most, w .payload, w .small)
+sub-finish-2 c = let w = read (c .before .before .before) in omega (arith, w .short, w .run, w .inside, w .fore, w .least, w .most, w .payload, w .small)
 
 part-finish-start-2 : tie.Need-part-finish-start-2
-part-finish-start-2 c = let w = read (c .before .before .before .before .before .before) in omega (arith, w .short, w .run, w .inside, w .fore, w .least, w .most, w .payload, w .small)
+part-finish-start-2 c = let w = read (c .before .before .before) in omega (arith, w .short, w .run, w .inside, w .fore, w .least, w .most, w .payload, w .small)
 
 part-finish-end-2 : tie.Need-part-finish-end-2
-part-finish-end-2 c = let w = read (c .before .before .before .before .before .before) in omega (arith, w .short, w .run, w .inside, w .fore, w .least, w .most, w .payload, w .small)
+part-finish-end-2 c = let w = read (c .before .before .before) in omega (arith, w .short, w .run, w .inside, w .fore, w .least, w .most, w .payload, w .small)
 
 finish-requires : tie.Need-finish-requires
 finish-requires c κs =
-    let m = c .before .before .before .before .before .before .before .before in
-    rw (c .before .before .before .record-of .ensures) (clean-fits (S m) (m .before .before .before .before .before .args .out .now) (K m) (bytes m) (read-told m) (c .before .before .before .before .round-up .ensures))
+    let x = c .before .before .before .before .before in
+    let m = c .before .before .before .before .before .before .before .before .before .before .before .before .before .before .before in (
+      walked-halves (S m) (M m) (front-told m) (c .before .before .before .before .before .before .before .before .before .before .walk .result) (c .before .before .before .before .before .before .before .before .before .before .walk .ensures) (omega arith),
+      rw (c .before .before .before .record-of .ensures) (clean-fits (S m) (m .before .before .before .before .before .args .out .now) (K x) (bytes m) (read-told x) (c .before .before .before .before .round-up .ensures)),
+    )
 
-returns : tie.Need-returns
-returns c =
+returns-3 : tie.Need-returns-3
+returns-3 c =
     let a = c .before .before .before .before .before .before .args in
-    clean-refused (a .s .now) (a .out .now) (ap toldMessage (sym (c .before .x .given .1)) ∙ c .before .before .before .message-at .ensures)
+    clean-refused (a .s .now) (a .out .now) (front-refused (a .s .now) 0 (c .before .x .given .0 .0) (ap toldFront (sym (c .before .x .given .1)) ∙ c .before .before .before .front-at .ensures))
 
 same-length : tie.Need-same-length
 same-length c = search needs
 
-returns-2 : tie.Need-returns-2
-returns-2 c =
-    let m = c .before .before .before .before .before .before .before .before .before .before .before in
-    c .before .before .finish .ensures ∙ rw (c .before .before .before .before .before .before .record-of .ensures) (clean-finished (S m) (m .before .before .before .before .before .args .out .now) (K m) (bytes m) (read-told m))
+returns-4 : tie.Need-returns-4
+returns-4 c =
+    let x = c .before .before .before .before .before .before .before .before in
+    let m = c .before .before .before .before .before .before .before .before .before .before .before .before .before .before .before .before .before .before in
+    c .before .before .finish .ensures ∙ rw (c .before .before .before .before .before .before .record-of .ensures) (clean-finished (S m) (m .before .before .before .before .before .args .out .now) (K x) (bytes m) (read-told x))
 
 -- so at every call the buffer that the promise allows is read as the record that was read
 pub every-call : (c : tie.After-shared-slice-known) (b : List ℕ) {m : Message} {n : ℕ} → length (c .before .args .s .now) ≤ 65536 → message 0 (c .before .args .s .now) ≡ good (m, n) → length (write m) ≤ length b
@@ -112,10 +173,22 @@ pub clean-spec : {M : Type 1} → statement M
 clean-spec =
     tie.close
     (tie.spec
-    message-at-requires
+    front-at-requires
     enum-known-x
     enum-known-m
     add-end
+    sub-walk
+    part-walk-start
+    part-walk-end
+    walk-requires
+    sub-if1
+    add-t19
+    returns
+    sub-miscounts
+    part-miscounts-start
+    part-miscounts-end
+    miscounts-requires
+    returns-2
     round-up-requires
     add-n
     sub-n
@@ -128,6 +201,6 @@ clean-spec =
     part-finish-start-2
     part-finish-end-2
     finish-requires
-    returns
+    returns-3
     same-length
-    returns-2)
+    returns-4)

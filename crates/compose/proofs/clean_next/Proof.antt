@@ -1,4 +1,5 @@
 -- `compose::clean_next` meets its contract: the two stores make the package that stands there its clean piece.
+use Prim.Native.Nat.{_+_}
 use native.Mathlib.Omega.{arith}
 use borrow.Author.Needs.{needs}
 use Rattle.rules.proofs.Claims.{premises-met}
@@ -18,6 +19,9 @@ wide16-requires c κs = search needs
 
 round-up-requires : tie.Need-round-up-requires
 round-up-requires c κs = search needs
+
+add-here : tie.Need-add-here
+add-here c = search needs
 
 add-put-byte : tie.Need-add-put-byte
 add-put-byte c = search needs
@@ -47,7 +51,8 @@ returns c =
     let n = p .before .before in
     let h = n .before .before in
     let a = h .before .before .before in
-    cleaned (a .args .run .now) (a .args .out .now) (a .args .at) (premises-met .bytes _ (λ k. omega (arith, h .before .shared-slice-known .given k))) (fit _ (a .pre .0)) (a .pre .1 .1) (h .half-at .ensures) (n .before .wide16 .ensures .0) (n .round-up .ensures) (p .put-byte .ensures) (z .put-zeros .ensures)
+    let m = cleaned (a .args .run .now) (a .args .out .now) (a .args .at) (a .args .base + a .args .at) (premises-met .bytes _ (λ k. omega (arith, h .before .shared-slice-known .given k))) (fit _ (a .pre .0)) (a .pre .1 .2) (h .half-at .ensures) (n .before .wide16 .ensures .0) (n .round-up .ensures) (p .put-byte .ensures) (z .put-zeros .ensures) in
+    record { end = m .0; bytes = m .1 }
 
 pub clean-next-spec : {M : Type 1} → statement M
 clean-next-spec =
@@ -57,6 +62,7 @@ clean-next-spec =
     half-at-requires
     wide16-requires
     round-up-requires
+    add-here
     add-put-byte
     put-byte-requires
     add-put-zeros
