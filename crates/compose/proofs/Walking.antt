@@ -93,9 +93,6 @@ module _ (s : List ℕ) where
         empty : Fills Piece [] (take (i + size s i - (i + size s i)) (drop (i + size s i) s))
         empty = let a : i + size s i - (i + size s i) ≡ 0 = omega arith in rw a none
 
-        pub walk-on : 12 ≤ k
-        walk-on = omega (arith, f .least)
-
         -- the border stays, or is where this package ends
         pub walk-same : Walking s (i + k) (n + 1) m
         walk-same = rw e (record {

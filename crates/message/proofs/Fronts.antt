@@ -15,7 +15,7 @@ use Rattle.rules.specs.Items.{items}
 use Rattle.rules.specs.Options.{countSaid, differs}
 use Rattle.rules.specs.Packages.{piece, cut}
 use Rattle.rules.specs.Message.{Head, head, payloadStart, payload, optionRunLength, checksEightAndNine, checksOneToNine, checksOneToTen, everyCheck}
-use Rattle.rules.specs.Reading.{MessageSpot, messageSpot, messageAt}
+use Rattle.rules.specs.Reading.{messageSpot, messageAt}
 use Rattle.rules.proofs.Outcomes.{pass, halt, after, step, stop, stop-before, came-after, passed, stepped, good-inj, good≢bad, refused-at, refused-pass, refused-step, refused-front}
 use Rattle.rules.proofs.Cut as Cut
 use Rattle.rules.proofs.Loops.{rest}
@@ -25,14 +25,12 @@ use Rattle.refusal.specs.declared.Refusal.{Refusal}
 use Rattle.refusal.specs.declared.Why.the-variants as why
 use Rattle.message.proofs.Checks.{short}
 use Rattle.message.proofs.Messages.{by-bytes}
-use Rattle.message.proofs.Same.{same-front}
 use Rattle.message.specs.Answers.{headOf, headerOf, eightAndNine, toldMessage, FrontSpot, frontSpot, frontHere, frontAt, spotOfFront, toldFront}
 use Rattle.message.specs.declared.Raw.{Raw}
 use Rattle.message.specs.declared.Header.{Header}
 use Rattle.message.specs.declared.Message.{Message}
 use Rattle.message.specs.declared.MessageRead.the-variants as messageRead
 use Rattle.message.specs.declared.Front.{Front}
-use Rattle.message.specs.declared.FrontRead.{FrontRead}
 use Rattle.message.specs.declared.FrontRead.the-variants as frontRead
 
 -- ---- checks 1 to 9 of the message at the start of s
@@ -139,18 +137,6 @@ module _ (p : ℕ) (s : List ℕ) (h : Head) where
       every : differs (countSaid (part 24 (24 + n) s)) (length cs) ≡ false → everyCheck p s h ≡ good (n, cs)
       unfolding everyCheck
       every x = step _ _ ten (pass _ _ _ _ x refl)
-
-  -- and back
-  every-nine : (r : ℕ × List (List ℕ)) → everyCheck p s h ≡ good r → checksOneToNine p s h ≡ good (r .0)
-  unfolding everyCheck checksOneToTen
-  every-nine r e =
-      let (x, y, e) = stepped _ _ e in
-      let (a, e) = passed _ _ _ _ e in
-      let (n, o, y) = stepped _ _ y in
-      let (cs, c, y) = stepped _ _ y in
-      let u : (n, cs) ≡ x = cc in
-      let q : (n, cs) ≡ r = cc in
-      rw (← q) o
 
   -- what checks 1 to 9 say of the header, and of its option run
   nine-sound : {n : ℕ} → checksOneToNine p s h ≡ good n → Sound s h
@@ -296,19 +282,3 @@ module _ (s : List ℕ) (k : ℕ) (m : Front) where
       pub front-message : differs (countSaid (take (k + 24 + m .header .run - (k + 24)) (drop (k + 24) s))) (length cs) ≡ false
           → toldMessage (messageRead.Message (record { header = m .header; payload = m .payload; next = m .next; packages = length cs })) ≡ messageAt s k
       front-message x = told-good (known s k m e) cs c x
-
--- a message that passes every check has this front, and no other answer is one
-pub front-of-message : (s : List ℕ) (k : ℕ) (m : Message) → toldMessage (messageRead.Message m) ≡ messageAt s k
-    → toldFront (frontRead.Front (record { header = m .header; payload = m .payload; next = m .next })) ≡ frontAt s k
-unfolding frontAt messageAt messageSpot
-front-of-message s k m e =
-    let (a, g) = passed _ _ _ _ (sym e) in
-    let (r, q, f) = stepped _ _ g in
-    sym
-    (pass _ _ _ _ a
-    (step _ _ (every-nine k (drop k s) (head (drop k s)) r q)
-    (ap (λ (y : MessageSpot). good (record { head = y .head; run = y .run; payload = y .payload; next = y .next })) (good-inj f))))
-
-pub message-front : (s : List ℕ) (k : ℕ) (m : Message) → toldMessage (messageRead.Message m) ≡ messageAt s k
-    → (x : FrontRead) → toldFront x ≡ frontAt s k → x ≡ frontRead.Front (record { header = m .header; payload = m .payload; next = m .next })
-message-front s k m e x f = same-front x _ (f ∙ sym (front-of-message s k m e))

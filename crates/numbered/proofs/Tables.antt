@@ -29,12 +29,9 @@ use Rattle.numbered.specs.Parts.{rowsIn}
 
 -- ---- the near rows of a table are those of its rows
 
-acquired-again : (g : ℕ) → eqb (oneIf (eqb g 1)) 1 ≡ eqb g 1
-acquired-again g = go (eqb g 1)
-  where
-    go : (b : Bool) → eqb (oneIf b) 1 ≡ b
-    go true = refl
-    go false = refl
+flag-again : (b : Bool) → eqb (oneIf b) 1 ≡ b
+flag-again true = refl
+flag-again false = refl
 
 near-alike : (m : ℕ) (b : Bool) (f l p q s′ s e′ e g′ g : ℕ) (t′ t : List ℕ) → s′ ≡ s → e′ ≡ e → eqb g′ 1 ≡ eqb g 1 → nearOf m b t′ ≡ nearOf m b t
     → nearOf m b (f ∷ l ∷ p ∷ q ∷ s′ ∷ e′ ∷ g′ ∷ t′) ≡ nearOf m b (f ∷ l ∷ p ∷ q ∷ s ∷ e ∷ g ∷ t)
@@ -51,7 +48,7 @@ unfolding nearOf tableOf rowsIn
 near-again m b (f ∷ l ∷ p ∷ q ∷ s ∷ e ∷ g ∷ t) =
     let x : s / 1000000000 * 1000000000 + s % 1000000000 ≡ s = omega arith in
     let y : e / 1000000000 * 1000000000 + e % 1000000000 ≡ e = omega arith in
-    near-alike m b f l p q (s / 1000000000 * 1000000000 + s % 1000000000) s (e / 1000000000 * 1000000000 + e % 1000000000) e (oneIf (eqb g 1)) g (tableOf (rowsIn t)) t x y (acquired-again g) (near-again m b t)
+    near-alike m b f l p q (s / 1000000000 * 1000000000 + s % 1000000000) s (e / 1000000000 * 1000000000 + e % 1000000000) e (oneIf (eqb g 1)) g (tableOf (rowsIn t)) t x y (flag-again (eqb g 1)) (near-again m b t)
 near-again m b [] = refl
 near-again m b (f ∷ []) = refl
 near-again m b (f ∷ l ∷ []) = refl
@@ -98,10 +95,6 @@ near-laid table near near′ many id id′ b b′ i s l n m e =
     )
 
 -- ---- the rows of a sheet's table are the sheet's
-
-flag-again : (b : Bool) → eqb (oneIf b) 1 ≡ b
-flag-again true = refl
-flag-again false = refl
 
 row-again : (r : rows.Row) (rs : List rows.Row) → r .startNanos ≤ 999999999 → r .endNanos ≤ 999999999 → r .spare ≡ 0 → rowsIn (tableOf rs) ≡ rs → rowsIn (tableOf (r ∷ rs)) ≡ r ∷ rs
 unfolding rowsIn tableOf

@@ -138,7 +138,7 @@ abbrev pub readOf : MessageTaken → MessageRead
 readOf (taking.Message m s) = read.Message m
 readOf (taking.Refused f) = read.Refused f
 
--- the payload of a message that was read, and the pieces that it is cut into
+-- the payload of a message that was read
 abbrev pub runOf : List ℕ → found.Message → List ℕ
 runOf input m = take (m .next - m .payload) (drop (m .payload) input)
 

@@ -29,20 +29,6 @@ unfolding tableOf
 length-table [] = refl
 length-table (r ∷ rs) = omega (arith, length-table rs)
 
--- one row more, near or not
-near-longer : (r : rules.Row) (rs : List rules.Row) (m : ℕ) (b : Bool) → length (nearOf m b (tableOf rs)) ≤ 4 * length rs → length (nearOf m b (tableOf (r ∷ rs))) ≤ 4 * suc (length rs)
-unfolding tableOf nearOf
-near-longer r rs m b h = go (reaches m b (r .firstMessage) (r .lastMessage) (oneIf (r .acquiredOnly)))
-  where
-    go : (y : Bool) → length {A = ℕ} (elim y [ true ↦ r .firstPackage ∷ r .lastPackage ∷ startOf r ∷ endOf r ∷ nearOf m b (tableOf rs) | false ↦ nearOf m b (tableOf rs) ]) ≤ 4 * suc (length rs)
-    go true = omega arith
-    go false = omega arith
-
-pub near-length : (m : ℕ) (b : Bool) (rs : List rules.Row) → length (nearOf m b (tableOf rs)) ≤ 4 * length rs
-unfolding tableOf nearOf
-near-length m b [] = omega arith
-near-length m b (r ∷ rs) = near-longer r rs m b (near-length m b rs)
-
 -- a row's test is that it is near and that the near row grants
 parted : (a b o s x : Bool) (near l : List ℕ) (g : List ℕ → Bool) → g near ≡ x || g l
     → g (elim (a && b && not (eqb (oneIf o) 1 && s)) [ true ↦ near | false ↦ l ]) ≡ (a && b && x && not (o && s)) || g l
