@@ -185,6 +185,13 @@ fn main() {
         let (recording, _) = of_sizes(&mut Dice::new(4, sizes.len() as u64), sizes);
         tried.as_whole(&format!("messages of {sizes:?} bytes"), &recording, &everything);
     }
+    // Copies that leave just room for one window in the buffer of eight in which they are gathered, or four bytes less, fill it, and fill it again.
+    for sizes in [&[WINDOW; 7][..], &[WINDOW; 8], &[WINDOW; 9], &[WINDOW; 17]] {
+        for first in [WINDOW, WINDOW - 4, 36] {
+            let (recording, _) = of_sizes(&mut Dice::new(9, sizes.len() as u64), &[&[first], &sizes[1..]].concat());
+            tried.as_whole(&format!("{} messages of 65,536 bytes, the first of {first}", sizes.len()), &recording, &everything);
+        }
+    }
     let (recording, places) = of_sizes(&mut Dice::new(5, 0), &[36, 400, WINDOW, 40]);
     let mut longer = recording.clone();
     let length = places[2] + 12;

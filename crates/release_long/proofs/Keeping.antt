@@ -174,10 +174,6 @@ pub unread-on : (sheet : List ℕ) (writes : Bool) (before : rule.State) (state 
 unfolding turnedOn
 unread-on sheet writes before state = tt
 
-pub unwritten-on : (sheet : List ℕ) (writes : Bool) (before : rule.State) (state : State) → turnedOn sheet writes before (record { turn = turn.Unwritten; state = state })
-unfolding turnedOn
-unwritten-on sheet writes before state = tt
-
 -- what is handed over lies in the window
 pub handed-inside : (goesOn : Bool) (window : List ℕ) (h : Handed) (n : ℕ) → h ≡ handed.Bytes n → toldHanded h ≡ handedOver goesOn window → n ≤ length window
 handed-inside goesOn window h n e f = hands-over goesOn window n (sym (ap toldHanded (sym e) ∙ f)) .inside

@@ -36,7 +36,6 @@ abbrev pub ifTaken : Turn → (ℕ → Type 0) → Type 0
 ifTaken (turn.Taken n p) fact = fact n
 ifTaken (turn.Refused f) fact = Unit {0}
 ifTaken turn.Unread fact = Unit {0}
-ifTaken turn.Unwritten fact = Unit {0}
 
 abbrev pub ifWhole : Pass → (ℕ → Type 0) → Type 0
 ifWhole (pass.Whole d) fact = fact (d .place)

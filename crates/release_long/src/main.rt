@@ -2,7 +2,8 @@
 // recording twice, window by window, in steps: the first time they are only measured, and the second time written, if none was refused. At the end a line on
 // standard error says what was done. Where a third argument says the recording's size, a line on standard error tells how far it is.
 ghost use mathlib.Core.Path.{_≡_};
-ghost use Prim.Native.Nat.{_+_, _≤_};
+ghost use Prim.Native.Nat.{ℕ, _+_, _≤_};
+ghost use mathlib.Core.List.{List};
 ghost use lib.ListN.{length};
 ghost use Rattle.step.specs.Told.{stateIn};
 ghost use Rattle.release_long.specs.Keeps.{fresh, steppedOn, turnedOn, passedOn};
@@ -42,12 +43,11 @@ fn step_over(part: &[u8], sheet: &[u8], state: State, writes: bool, out: &mut [u
     step::measure(part, sheet, 65537, state)
 }
 
-// What a window comes to: so many of its bytes are taken, with what that wrote; or it is refused; or the files fail.
+// What a window comes to: so many of its bytes are taken, with what that wrote; or it is refused; or the recording can't be read.
 enum Turn {
     Taken(usize, Progress),
     Refused(Refusal),
     Unread,
-    Unwritten,
 }
 
 // A turn, and the state after it.
@@ -130,22 +130,6 @@ fn take_window(
     hand_window(window, true, sheet, state, writes, out)
 }
 
-// Writes the first n bytes of a buffer, and says whether all of them were.
-fn write_first(out: &[u8], n: usize) -> bool {
-    if n <= out.len() {
-        return io::write_all(STDOUT_FILENO, &out[..n]);
-    }
-    false
-}
-
-// Writes what a turn wrote into the buffer, and says whether all of it was.
-fn write_turn(turn: Turn, out: &[u8]) -> bool {
-    match turn {
-        Turn::Taken(_, p) => write_first(out, p.bytes),
-        _ => true,
-    }
-}
-
 // The window that was read into a buffer of one byte more, of which n bytes are filled: where that byte is there, the recording goes on behind the window.
 fn take_read(
     window: &[u8],
@@ -188,15 +172,45 @@ fn take_turn(
     let Filled::Bytes(n) = got else {
         return unread;
     };
-    let turned = take_read(window, n, sheet, state, writes, out);
-    let taken = turned.turn;
-    if writes && !write_turn(taken, out) {
-        return Turned {
-            turn: Turn::Unwritten,
-            state,
+    take_read(window, n, sheet, state, writes, out)
+}
+
+// What is gathered of the copy: so many bytes at the start of a buffer. Where bytes could not be written, it failed.
+struct Gathered {
+    used: usize,
+    failed: bool,
+}
+
+// What is gathered after a turn that took n bytes, and wrote into the buffer behind the first `used`. It is written where less than a window's 65,536
+// bytes are left of the 524,288, and where nothing was taken, so that no turn follows. A pass that measures alone gathers nothing.
+fn gather(out: &[u8], used: usize, n: usize, p: Progress, writes: bool) -> Gathered
+    requires { ⌜ used ≤ length (now out) ⌝ }
+    ensures { λ r. ⌜ r .used ≤ 458752 ⌝ }
+{
+    if !writes {
+        return Gathered {
+            used: 0,
+            failed: false,
         };
     }
-    turned
+    if out.len() - used < p.bytes {
+        return Gathered {
+            used: 0,
+            failed: true,
+        };
+    }
+    let all = used + p.bytes;
+    if 0 < n && all <= 458752 {
+        return Gathered {
+            used: all,
+            failed: false,
+        };
+    }
+    let written = io::write_all(STDOUT_FILENO, &out[..all]);
+    Gathered {
+        used: 0,
+        failed: !written,
+    }
 }
 
 // What is done so far: the place in the recording up to which it is taken, the messages handled, and what was written.
@@ -206,6 +220,18 @@ struct Done {
     bytes: u64,
     messages: u64,
     packages: u64,
+}
+
+fn nothing_done() -> Done
+    ensures { λ r. ⌜ r .place ≡ 0 ⌝ }
+{
+    Done {
+        place: 0,
+        handled: 0,
+        bytes: 0,
+        messages: 0,
+        packages: 0,
+    }
 }
 
 // One part more, of n bytes.
@@ -284,21 +310,29 @@ fn end_line(t: Tells) {
     }
 }
 
-// Goes over the recording from its first byte, turn by turn; one that takes nothing is the end. A proved loop has to end: the turns are more than any
-// recording takes.
+// The pass whose turn at this place is refused or unread.
+fn stopped(turn: Turn, place: u64) -> Pass
+    ensures { λ r. ⌜ ((sheet : List ℕ) → passedOn sheet r) ⌝ }
+{
+    match turn {
+        Turn::Refused(f) => {
+            let why = f.why;
+            Pass::Refused(why, wrapping_add_u64(place, f.place as u64))
+        }
+        _ => Pass::Unread,
+    }
+}
+
+// Goes over the recording from its first byte, turn by turn; one that takes nothing is the end. Each is lent what is left of the buffer in which the copy is
+// gathered. A proved loop has to end: the turns are more than any recording takes.
 fn go_over(recording: i32, sheet: &[u8], writes: bool, tells: Tells) -> Pass
     ensures { λ r. ⌜ passedOn (now (sheet .entry)) r ⌝ }
 {
     let mut window = [0u8; 65537];
-    let mut out = [0u8; 65536];
+    let mut out = [0u8; 524288];
+    let mut used = 0;
     let mut state = no_ids();
-    let mut done = Done {
-        place: 0,
-        handled: 0,
-        bytes: 0,
-        messages: 0,
-        packages: 0,
-    };
+    let mut done = nothing_done();
     let mut turns: u64 = 1_000_000_000_000;
     while 0 < turns {
         let turned = take_turn(
@@ -308,30 +342,24 @@ fn go_over(recording: i32, sheet: &[u8], writes: bool, tells: Tells) -> Pass
             state,
             writes,
             &mut window,
-            &mut out,
+            &mut out[used..],
         );
         let taken = turned.turn;
-        match taken {
-            Turn::Taken(n, p) => {
-                if n == 0 {
-                    return Pass::Whole(done);
-                }
-                let after = turned.state;
-                state = after;
-                done = with_part(done, n, p);
-                tell(tells, done.place);
-            }
-            Turn::Refused(f) => {
-                let why = f.why;
-                return Pass::Refused(why, wrapping_add_u64(done.place, f.place as u64));
-            }
-            Turn::Unread => {
-                return Pass::Unread;
-            }
-            Turn::Unwritten => {
-                return Pass::Unwritten;
-            }
+        let Turn::Taken(n, p) = taken else {
+            return stopped(taken, done.place);
+        };
+        let gathered = gather(&out, used, n, p, writes);
+        if gathered.failed {
+            return Pass::Unwritten;
         }
+        if n == 0 {
+            return Pass::Whole(done);
+        }
+        used = gathered.used;
+        let after = turned.state;
+        state = after;
+        done = with_part(done, n, p);
+        tell(tells, done.place);
         turns -= 1;
     }
     Pass::Unread

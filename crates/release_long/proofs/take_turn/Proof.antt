@@ -1,5 +1,5 @@
 -- `release_long::take_turn` meets its contract: what it takes of the window that was read.
-use Rattle.release_long.proofs.Keeping.{unread-on, unwritten-on, filled}
+use Rattle.release_long.proofs.Keeping.{unread-on, filled}
 use borrow.Author.Needs.{needs}
 use Rattle.release_long.proofs.take_turn.Statement.{statement}
 use Rattle.release_long.proofs.take_turn.Tie as tie
@@ -31,9 +31,6 @@ returns-2 c = unread-on _ _ _ _
 take-read-requires : tie.Need-take-read-requires
 take-read-requires c κs = filled _ _ _ (c .before .before .before .got .given .1) (c .before .before .before .before .before .before .before .fill .ensures)
 
-write-turn-requires : tie.Need-write-turn-requires
-write-turn-requires c κs = search needs
-
 same-length-2 : tie.Need-same-length-2
 same-length-2 c = search needs
 
@@ -41,16 +38,7 @@ same-length-3 : tie.Need-same-length-3
 same-length-3 c = search needs
 
 returns-3 : tie.Need-returns-3
-returns-3 c = unwritten-on _ _ _ _
-
-same-length-4 : tie.Need-same-length-4
-same-length-4 c = search needs
-
-same-length-5 : tie.Need-same-length-5
-same-length-5 c = search needs
-
-returns-4 : tie.Need-returns-4
-returns-4 c = search needs
+returns-3 c = search needs
 
 pub take-turn-spec : {M : Type 1} → statement M
 take-turn-spec =
@@ -65,10 +53,6 @@ take-turn-spec =
     same-length
     returns-2
     take-read-requires
-    write-turn-requires
     same-length-2
     same-length-3
-    returns-3
-    same-length-4
-    same-length-5
-    returns-4)
+    returns-3)
