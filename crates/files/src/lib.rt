@@ -2,6 +2,7 @@
 // the end.
 ghost use Prim.Native.Nat.{_≤_};
 ghost use Rattle.files.specs.Filled.{within, below, opened};
+use libc::SEEK_SET;
 
 // What was read of a file: so many bytes, at the start of the buffer; or a read failed.
 pub enum Filled {
@@ -26,6 +27,19 @@ pub fn fill(fd: i32, buf: &mut [u8]) -> Filled
         at += n;
     }
     Filled::Bytes(at)
+}
+
+// Fills a buffer from a place of a file on. What can't be sought, as a place behind those that the system numbers, is a read that fails.
+pub fn fill_from(fd: i32, place: u64, buf: &mut [u8]) -> Filled
+    ensures { λ r. ⌜ within r (now (buf .exit)) ⌝ }
+{
+    if 9223372036854775807 < place {
+        return Filled::Failed;
+    }
+    if libc::lseek(fd, place as i64, SEEK_SET) < 0 {
+        return Filled::Failed;
+    }
+    fill(fd, buf)
 }
 
 // How many bytes one read takes; one more than it can take, where it fails.

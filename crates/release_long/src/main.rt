@@ -9,7 +9,6 @@ ghost use Rattle.step.specs.Told.{stateIn};
 ghost use Rattle.release_long.specs.Keeps.{fresh, steppedOn, turnedOn, passedOn};
 use files::Filled;
 use files::Opened;
-use libc::SEEK_SET;
 use libc::STDERR_FILENO;
 use libc::STDOUT_FILENO;
 use numbered::Answer;
@@ -158,19 +157,14 @@ fn take_turn(
     window: &mut [u8],
     out: &mut [u8],
 ) -> Turned
-    requires { ⌜ place ≤ 65536000000000000 ⌝ }
     ensures { λ r. ⌜ turnedOn (now (sheet .entry)) writes (stateIn state) r ⌝ }
 {
-    let unread = Turned {
-        turn: Turn::Unread,
-        state,
-    };
-    if libc::lseek(recording, place as i64, SEEK_SET) < 0 {
-        return unread;
-    }
-    let got = files::fill(recording, window);
+    let got = files::fill_from(recording, place, window);
     let Filled::Bytes(n) = got else {
-        return unread;
+        return Turned {
+            turn: Turn::Unread,
+            state,
+        };
     };
     take_read(window, n, sheet, state, writes, out)
 }

@@ -50,7 +50,7 @@ part-out-end : tie.Need-part-out-end Inv-loop μ-loop
 part-out-end c = omega arith
 
 take-turn-requires : tie.Need-take-turn-requires Inv-loop μ-loop
-take-turn-requires c κs = omega (arith, c .before .before .before .loop .inv .1)
+take-turn-requires c κs = search needs
 
 enum-known-taken : tie.Need-enum-known-taken Inv-loop μ-loop
 enum-known-taken c = search needs
