@@ -1,6 +1,5 @@
 -- What the functions of the copy keep: what they store, the messages that are taken, the ids that are counted, the numbers that go on, and each answer.
 pub mod Seeking
-pub mod Tables
 pub mod Numbers
 pub mod States
 pub mod Messages

@@ -33,18 +33,15 @@ use Rattle.message.proofs.PackageRead.{the-type}
 use Rattle.message.specs.Answers.{toldPackage, frontAt, toldFront}
 use Rattle.message.proofs.Fronts.{fronted, front-refused, front-package, front-count, front-message}
 use Rattle.rules.specs.Walk.{packageAt}
-use Rattle.sheet.specs.declared.Row.{Row}
-use Rattle.sheet.specs.Rows.{someGrants}
-use Rattle.sheet.proofs.Granting.{search-is}
-use Rattle.sheet.specs.Table.{nearOf, nearGrants}
+use Rattle.sheet.specs.Table.{rowsIn, nearOf, nearGrants}
 use Rattle.wire.specs.Bits.{bitAt, withBitIf}
 use Rattle.wire.proofs.Bits.{length-with}
 use Rattle.numbered.specs.declared.Size.{Size}
 use Rattle.numbered.specs.declared.Walked.{Walked}
 use Rattle.numbered.specs.declared.MessageTaken.{MessageTaken}
 use Rattle.numbered.specs.declared.MessageTaken.the-variants as taking
-use Rattle.numbered.specs.Parts.{sheetOf, rowsIn, messageBy, kept, payloadOf, withPackage, flagsOf, Tells, WalkedOver, finishedBy, finished, Took, pieceAs, Placed, Stored, picked, StoredRun}
-use Rattle.numbered.proofs.Tables.{near-in}
+use Rattle.numbered.specs.Parts.{messageBy, kept, payloadOf, withPackage, flagsOf, Tells, WalkedOver, finishedBy, finished, Took, pieceAs, Placed, Stored, picked, StoredRun}
+use Rattle.sheet.proofs.TableRows.{near-in}
 use Rattle.numbered.proofs.Marks.{tells-more, flags-more, flags-long, grow, picked-more}
 use Rattle.numbered.proofs.Found.{Found, found, no-end, no-piece, id-is, delta-is, next-is, least, on, still, placed, piece-is, piece-length}
 
@@ -72,15 +69,6 @@ simulated-bit flags =
     let b : flags % 16 / 8 ≡ flags / 8 % 2 = omega arith in
     let c : (flags / 64 % 2 * 8 + flags / 8 % 2) % 2 ≡ flags / 8 % 2 = omega arith in
     rw (a, b, c)
-
--- whether a package that was found is granted
-module _ (rs : List Row) (n : ℕ) (h : Header) (run : List ℕ) (k : ℕ) (p : Package) (f : Found run k p) where
-  abbrev asked : Bool
-  asked = someGrants (take n rs) (h .id .0) (isSimulated (h .flags)) (p .id .0) (packageTime (h .seconds) (h .nanos) (p .delta))
-
-  pub asked-is : asked ≡ granted (sheetOf rs n) (messageBy h) (packageOf (f .c))
-  unfolding packageOf
-  asked-is = sym (rw (← id-is run k p f, ← delta-is run k p f, ← simulated-bit (h .flags)) (search-is (take n rs) (messageBy h) (packageOf (f .c))))
 
 -- whether a package that was found is granted by the near rows of its message
 module _ (table : List ℕ) (h : Header) (run : List ℕ) (k : ℕ) (p : Package) (f : Found run k p) where

@@ -1,38 +1,31 @@
 -- The copy whole: a law for each of its answers.
-use Prim.Native.Nat.{ℕ, zero, suc, _+_, _-_, _≤_, _<_}
+use Prim.Native.Nat.{ℕ, _+_, _-_, _≤_, _<_}
 use mathlib.Core.Path.{_≡_, refl, sym, ap, subst, _∙_}
-use mathlib.Core.Logic.{_⊎_, ⊎-elim}
+use mathlib.Core.Logic.{⊎-elim}
 use mathlib.Core.Bool.{Bool, true, false, _&&_}
-use mathlib.Core.List.{List, [], _∷_, _++_, map}
+use mathlib.Core.List.{List, [], _++_, map}
 use native.Mathlib.Nat.{zero-add}
 use native.Mathlib.Omega.{arith}
 use borrow.Author.Tests.{ltb-false, le-ltb, eqb-true, leb-true, leb-false, eq-eqb, ne-eqb, le-leb, lt-leb}
 use lib.Dec.{leb, ltb, eqb}
 use lib.ListN.{length, take, replicate, length-append, length-take, length-replicate}
-use lib.Seq.{sets, take-append-seam, length-take-le}
+use lib.Seq.{sets, length-take-le}
 use Rattle.rules.specs.Outcome.{Outcome, good, bad, _>>_}
 use Rattle.rules.specs.Items.{items, count}
 use Rattle.rules.specs.Message.{Message, message}
 use Rattle.rules.specs.Sheet as rows
-use Rattle.rules.specs.Sheet.{sheetRows}
 use Rattle.rules.specs.Copy.{Entry, released}
 use Rattle.rules.proofs.Loops.{sets-sets}
 use Rattle.rules.proofs.Outcomes.{pass, halt, step, stop, passed, came-after, stepped, good-inj, good≢bad, refused-step, refused-at, stop-before}
 use Rattle.refusal.specs.declared.Refusal.{Refusal}
 use Rattle.refusal.specs.declared.Why.the-variants.{Room, Ids}
-use Rattle.refusal.specs.Numbers.{numberOf, refused}
-use Rattle.sheet.specs.declared.Row.{Row}
-use Rattle.sheet.specs.declared.SheetRead.{SheetRead}
-use Rattle.sheet.specs.declared.SheetAnswer.{SheetAnswer}
-use Rattle.sheet.specs.declared.SheetAnswer.the-variants as Sheet
-use Rattle.sheet.specs.Reading as sheet
-use Rattle.sheet.specs.Rows.{rowIn}
+use Rattle.refusal.specs.Numbers.{numberOf}
 use Rattle.numbered.specs.declared.Progress.{Progress}
 use Rattle.numbered.specs.declared.Answer.{Answer}
 use Rattle.numbered.specs.declared.Answer.the-variants as answer
-use Rattle.numbered.specs.Numbering.{Running, numbersAfter, numberedBytes, beside, State, runningIn, idOf, nextOf, holding}
+use Rattle.numbered.specs.Numbering.{Running, numbersAfter, numberedBytes, State, runningIn, idOf, nextOf, holding}
 use Rattle.numbered.specs.Quota.{badIds, Taken, takenFrom, messageOf, bytesTaken, idsFit, delivering, measuring, Report, reported, numberedCopy, settled, shorter, mostIn}
-use Rattle.numbered.specs.Parts.{sheetOf, named, flagsIn, Tells, Marked, Single, Roomy, Wrote, knownOf, roomOf, Most, refusedIds}
+use Rattle.numbered.specs.Parts.{named, flagsIn, Tells, Marked, Single, Roomy, Wrote, knownOf, roomOf, Most, refusedIds}
 use Rattle.numbered.specs.Told.{totals, progress, measured, toldMeasure, MarkedBy, report, stateOf, told}
 use Rattle.numbered.proofs.Messages.{First, first-taken, few-released}
 use Rattle.numbered.proofs.States.{beside-ids, beside-length, length-map, sets-same, good-few, good-single}
@@ -40,36 +33,6 @@ use Rattle.numbered.proofs.Twice.{twice-once}
 use Rattle.numbered.proofs.Ids.{ids-few, ids-good, after-same, ids-same, after-length, refused-room, copy-done}
 use Rattle.numbered.proofs.Seating.{named-ids}
 use Rattle.numbered.proofs.Entries.{bytes-length}
-
--- ---- the sheet
-
-map-take : {A B : Type 0} (f : A → B) (n : ℕ) (l : List A) → map f (take n l) ≡ take n (map f l)
-map-take f zero l = refl
-map-take f (suc n) [] = refl
-map-take f (suc n) (a ∷ l) = ap (λ (r : List _). f a ∷ r) (map-take f n l)
-
-first-rows : (l : List rows.Row) (rs : List Row) (n : ℕ) (z : List rows.Row) → l ++ z ≡ map rowIn rs → length l ≡ n → sheetOf rs n ≡ l
-first-rows l rs n z a b = rw (map-take rowIn n rs, ← a, ← b, take-append-seam)
-
--- what reading a sheet answered, by its promise
-module _ (sheetBytes : List ℕ) (q : SheetRead) (e : sheet.told q ≡ sheet.answer (sheetRows sheetBytes)) where
-  outcome-is : (x : SheetAnswer) → q .answer ≡ x → sheet.outcomeOf x (map rowIn (q .rows), q .count) ≡ sheetRows sheetBytes
-  outcome-is x k = ap (λ (y : SheetAnswer). sheet.outcomeOf y (map rowIn (q .rows), q .count)) (sym k) ∙ ap (λ (y : Outcome (List rows.Row × ℕ) × (List rows.Row × ℕ)). y .0) e
-
-  -- a sheet that was read
-  pub sheet-read : q .answer ≡ Sheet.Good → rows.sheet sheetBytes ≡ good (sheetOf (q .rows) (q .count))
-  unfolding sheetRows
-  sheet-read k =
-      let (l, s, z) = stepped _ _ (sym (outcome-is Sheet.Good k)) in
-      let p = good-inj z in
-      let a : l ++ replicate (32 - length l) (rows.rowOf 0) ≡ map rowIn (q .rows) = ap (λ (x : List rows.Row × ℕ). x .0) p in
-      let b : length l ≡ q .count = ap (λ (x : List rows.Row × ℕ). x .1) p in
-      s ∙ ap good (sym (first-rows l (q .rows) (q .count) _ a b))
-
-  -- and one that was refused
-  pub sheet-bad : (f : Refusal) → q .answer ≡ Sheet.Refused f → rows.sheet sheetBytes ≡ bad (numberOf (f .why)) (f .place)
-  unfolding sheetRows
-  sheet-bad f k = ⊎-elim (λ b. b) (λ w. absurd (good≢bad (sym (w .2)))) (refused-step _ _ (sym (outcome-is (Sheet.Refused f) k)))
 
 -- ---- how many ids may be held
 

@@ -26,8 +26,6 @@ use Rattle.message.specs.declared.Message as found
 use Rattle.message.specs.declared.MessageRead.{MessageRead}
 use Rattle.message.specs.declared.MessageRead.the-variants as read
 use Rattle.message.specs.Answers.{toldMessage}
-use Rattle.sheet.specs.declared.Row.{Row}
-use Rattle.sheet.specs.Rows.{rowIn}
 use Rattle.numbered.specs.declared.Size.{Size}
 use Rattle.numbered.specs.declared.Walked.{Walked}
 use Rattle.numbered.specs.declared.MessageTaken.{MessageTaken}
@@ -41,32 +39,6 @@ use Rattle.numbered.specs.declared.Seats.{Seats}
 use Rattle.numbered.specs.declared.Reached.{Reached}
 use Rattle.numbered.specs.Quota.{badIds, mostEntries}
 use Rattle.numbered.specs.Numbering.{Running, countedOn, numbersAfter, numberedBytes, beside, idOf, nextOf}
-
--- the first n rows, as the rules have them
-abbrev pub sheetOf : List Row → ℕ → List rows.Row
-sheetOf rs n = map rowIn (take n rs)
-
--- the rows whose numbers a table has, seven for each (sheet's `tableOf`); fewer than seven are no row
-unfoldable pub rowsIn : List ℕ → List rows.Row
-rowsIn (a ∷ b ∷ c ∷ d ∷ s ∷ e ∷ acquired ∷ table) = record {
-  firstMessage = a;
-  lastMessage = b;
-  firstPackage = c;
-  lastPackage = d;
-  startSeconds = s / 1000000000;
-  startNanos = s % 1000000000;
-  endSeconds = e / 1000000000;
-  endNanos = e % 1000000000;
-  spare = 0;
-  acquiredOnly = eqb acquired 1;
-} ∷ rowsIn table
-rowsIn [] = []
-rowsIn (a ∷ []) = []
-rowsIn (a ∷ b ∷ []) = []
-rowsIn (a ∷ b ∷ c ∷ []) = []
-rowsIn (a ∷ b ∷ c ∷ d ∷ []) = []
-rowsIn (a ∷ b ∷ c ∷ d ∷ e ∷ []) = []
-rowsIn (a ∷ b ∷ c ∷ d ∷ e ∷ f ∷ []) = []
 
 -- a message with this header: a grant depends on its id, its time and its flag bit 3 alone
 abbrev pub messageBy : Header → Message

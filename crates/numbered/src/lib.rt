@@ -9,12 +9,10 @@ ghost use lib.Dec.{ltb};
 ghost use lib.ListN.{length, getD, take, drop};
 ghost use lib.Seq.{sets};
 ghost use Rattle.rules.specs.Bytes.{put32};
-ghost use Rattle.rules.specs.Packages.{packageTime};
-ghost use Rattle.rules.specs.Message.{isSimulated};
 ghost use Rattle.rules.specs.Items.{count};
-ghost use Rattle.sheet.specs.Rows.{someGrants};
+ghost use Rattle.sheet.specs.Table.{rowsIn};
 ghost use Rattle.numbered.specs.Quota.{badIds, someTwice, settled, measuredIds, shorter, mostIn};
-ghost use Rattle.numbered.specs.Parts.{rowsIn, messageBy, WalkedOver, finished, Took, withPackage, withEntry, Placed, pieceAs, Stored, StoredRun, picked, headBytes, Place, Sees, slotOf, heldWith, numberAt, Ready, Delivered, Roomy, Wrote, Tells, Marked, Single, Seated, judgedAs, knownOf, roomOf, Most, refusedIds};
+ghost use Rattle.numbered.specs.Parts.{messageBy, WalkedOver, finished, Took, withPackage, withEntry, Placed, pieceAs, Stored, StoredRun, picked, headBytes, Place, Sees, slotOf, heldWith, numberAt, Ready, Delivered, Roomy, Wrote, Tells, Marked, Single, Seated, judgedAs, knownOf, roomOf, Most, refusedIds};
 ghost use Rattle.numbered.specs.Told.{progress, toldMeasure, measured, Counts, MarkedBy, stateOf, told, toldIds, MeasuredIds, Copied};
 use message::Front;
 use message::FrontRead;
@@ -28,37 +26,15 @@ use message::package_at;
 use message::package_time;
 use refusal::Refusal;
 use refusal::Why;
-use sheet::Row;
-use sheet::Source;
 use sheet::TableAnswer;
-use sheet::in_sheet;
 use sheet::near_grants;
 use sheet::near_rows;
 use sheet::read_table;
+use sheet::source_of;
 use wire::bit_at;
 use wire::put_bit;
 use wire::put_part;
 use wire::put_word;
-
-// What a grant looks at of a message beside its time.
-fn source_of(h: Header) -> Source
-    ensures { λ r. ⌜ (r .mdid ≡ h .id) × (r .simulated ≡ isSimulated (h .flags)) ⌝ }
-{
-    let mdid = h.id;
-    Source {
-        mdid,
-        simulated: h.flags / 8 % 2 == 1,
-    }
-}
-
-// Whether the sheet grants package p of the message with header h.
-pub fn is_granted(h: Header, p: Package, rows: [Row; 32], n: usize) -> bool
-    ensures { λ r. ⌜ r ≡ someGrants (take n rows) (h .id .0) (isSimulated (h .flags)) (p .id .0) (packageTime (h .seconds) (h .nanos) (p .delta)) ⌝ }
-{
-    let m = source_of(h);
-    let id = p.id;
-    in_sheet(rows, n, m, id, package_time(h.seconds, h.nanos, p.delta))
-}
 
 // The granted packages of a message: how many, and the bytes that they take.
 struct Size {

@@ -28,11 +28,10 @@ use Rattle.message.specs.declared.Package.{Package}
 use Rattle.message.specs.declared.PackageRead.{PackageRead}
 use Rattle.message.specs.declared.PackageRead.the-variants as P
 use Rattle.message.specs.Answers.{toldPackage}
-use Rattle.sheet.specs.declared.Row.{Row}
-use Rattle.sheet.specs.Rows.{someGrants}
-use Rattle.numbered.specs.Parts.{sheetOf, messageBy, payloadOf}
+use Rattle.sheet.specs.Table.{rowsIn, nearOf, nearGrants}
+use Rattle.numbered.specs.Parts.{messageBy, payloadOf}
 use Rattle.numbered.proofs.Found.{Taken, taken, Found, found, no-end, no-piece, is-piece, piece-size, next-is, least, on, still, piece-length}
-use Rattle.numbered.proofs.Packages.{NoPackage, asked-is}
+use Rattle.numbered.proofs.Packages.{NoPackage, near-asked}
 use Rattle.purge.specs.declared.Left.{Left}
 use Rattle.purge.specs.Purge.{keptPackages}
 use Rattle.purge.specs.Parts.{keptPieces, Standing, KeptUnless, Slid}
@@ -95,9 +94,9 @@ module _ (s : List ℕ) (k : ℕ) (p : Package) (f : Found s k p) where
   cleaned : Bytes (drop k s) → cleanPiece (part k (p .next) s) ≡ pieceOf (packageOf (f .c))
   cleaned b = rw (← piece-part) (sym (piece-clean (f .c) (is-piece s k p f) (rw (is-taken .bytes) (bytes-take (pad (packageLength (drop k s))) (drop k s) b))))
 
-module _ (rs : List Row) (n : ℕ) (h : Header) (from to : ℕ) (s₀ : List ℕ) (ahead : to ≤ from) (into : from ≤ length s₀) (short : length s₀ ≤ 65536) where
+module _ (table : List ℕ) (h : Header) (from to : ℕ) (s₀ : List ℕ) (ahead : to ≤ from) (into : from ≤ length s₀) (short : length s₀ ≤ 65536) where
   abbrev sheet : List rows.Row
-  sheet = sheetOf rs n
+  sheet = rowsIn table
 
   abbrev it : Message
   it = messageBy h
@@ -218,6 +217,6 @@ module _ (rs : List Row) (n : ℕ) (h : Header) (from to : ℕ) (s₀ : List ℕ
                 used = rw (z, y, t, inv .used, payload-more ps (packageOf (f .c)), append-assoc);
               })
 
-          pub slide-next : Bytes s₀ → (b : Bool) → b ≡ someGrants (take n rs) (h .id .0) (isSimulated (h .flags)) (p .id .0) (packageTime (h .seconds) (h .nanos) (p .delta)) → KeptUnless s after k p b (to + l .bytes) l r → Sliding sheet it from to s₀ after r (p .next)
-          slide-next y true g w = taken-next (sym (g ∙ asked-is rs n h s k p f)) (w .bytes) (w .left)
-          slide-next y false g w = stays-next (sym (g ∙ asked-is rs n h s k p f)) (w .bytes ∙ ap (sets s (to + l .bytes)) (cleaned s k p f (rw (inv .rest) (bytes-drop k s₀ y)))) (w .left)
+          pub slide-next : Bytes s₀ → (b : Bool) → b ≡ nearGrants (p .id .0) (packageTime (h .seconds) (h .nanos) (p .delta)) (nearOf (h .id .0) (isSimulated (h .flags)) table) → KeptUnless s after k p b (to + l .bytes) l r → Sliding sheet it from to s₀ after r (p .next)
+          slide-next y true g w = taken-next (sym (g ∙ near-asked table h s k p f)) (w .bytes) (w .left)
+          slide-next y false g w = stays-next (sym (g ∙ near-asked table h s k p f)) (w .bytes ∙ ap (sets s (to + l .bytes)) (cleaned s k p f (rw (inv .rest) (bytes-drop k s₀ y)))) (w .left)

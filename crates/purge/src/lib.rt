@@ -6,7 +6,8 @@ ghost use Prim.Native.Nat.{_+_, _≤_};
 ghost use lib.ListN.{length, drop};
 ghost use lib.Seq.{sets};
 ghost use Rattle.rules.specs.Bytes.{pad, part, padded};
-ghost use Rattle.numbered.specs.Parts.{sheetOf, messageBy};
+ghost use Rattle.sheet.specs.Table.{rowsIn};
+ghost use Rattle.numbered.specs.Parts.{messageBy};
 ghost use Rattle.rules.specs.Clean.{cleanPiece};
 ghost use Rattle.rules.specs.Options.{optionSize};
 ghost use Rattle.rules.specs.Reading.{messageAt};
@@ -27,10 +28,12 @@ use message::PackageRead;
 use message::check;
 use message::message_at;
 use message::package_at;
-use numbered::is_granted;
-use sheet::Row;
-use sheet::SheetAnswer;
-use sheet::read_sheet;
+use message::package_time;
+use sheet::TableAnswer;
+use sheet::near_grants;
+use sheet::near_rows;
+use sheet::read_table;
+use sheet::source_of;
 use wire::byte_at;
 use wire::put_byte;
 use wire::put_part;
@@ -119,10 +122,19 @@ fn keep_unless(s: &mut [u8], at: usize, p: Package, granted: bool, to: usize, le
 }
 
 // Keeps the packages of the message with header h that the sheet does not grant. They stand from `from` to the end of s, and slide down to `to`.
-fn keep_packages(s: &mut [u8], h: Header, from: usize, to: usize, rows: [Row; 32], n: usize) -> Left
-    requires { ⌜ (to ≤ from) × (from ≤ length (now s)) × (length (now s) ≤ 65536) ⌝ }
-    ensures { λ r. ⌜ Slid (sheetOf rows n) (messageBy h) from to (now (s .entry)) (now (s .exit)) r ⌝ }
+// Only the rows that can grant something in this message are asked, which `near` is lent for.
+fn keep_packages(
+    s: &mut [u8],
+    h: Header,
+    from: usize,
+    to: usize,
+    table: &[u64],
+    near: &mut [u64],
+) -> Left
+    requires { ⌜ (to ≤ from) × (from ≤ length (now s)) × (length (now s) ≤ 65536) × (length (now table) ≤ 224) × (length (now near) ≡ 128) ⌝ }
+    ensures { λ r. ⌜ Slid (rowsIn (now (table .entry))) (messageBy h) from to (now (s .entry)) (now (s .exit)) r ⌝ }
 {
+    let many = near_rows(table, source_of(h), near);
     let mut left = Left {
         bytes: 0,
         packages: 0,
@@ -134,7 +146,9 @@ fn keep_packages(s: &mut [u8], h: Header, from: usize, to: usize, rows: [Row; 32
             return left;
         };
         let next = p.next;
-        let granted = is_granted(h, p, rows, n);
+        let id = p.id;
+        let time = package_time(h.seconds, h.nanos, p.delta);
+        let granted = near_grants(&near[..many], id, time);
         left = keep_unless(s, at, p, granted, to + left.bytes, left);
         at = next;
     }
@@ -215,15 +229,22 @@ fn loses_last(had: usize, left: usize) -> bool
 
 // Keeps what the sheet leaves of message m, which stands at `at`, from `to` on, and says where it ends.
 // Its option run goes down first, then its packages, one by one; the counts and the header follow once it is known how many are left.
-fn keep_message(s: &mut [u8], at: usize, m: Message, to: usize, rows: [Row; 32], n: usize) -> usize
-    requires { ⌜ (to ≤ at) × (length (now s) ≤ 65536) × (good (spotOfMessage m) ≡ messageAt (now s) at) ⌝ }
-    ensures { λ r. ⌜ KeptAt (sheetOf rows n) at (m .next) to (now (s .entry)) (now (s .exit)) r ⌝ }
+fn keep_message(
+    s: &mut [u8],
+    at: usize,
+    m: Message,
+    to: usize,
+    table: &[u64],
+    near: &mut [u64],
+) -> usize
+    requires { ⌜ (to ≤ at) × (length (now s) ≤ 65536) × (good (spotOfMessage m) ≡ messageAt (now s) at) × (length (now table) ≤ 224) × (length (now near) ≡ 128) ⌝ }
+    ensures { λ r. ⌜ KeptAt (rowsIn (now (table .entry))) at (m .next) to (now (s .entry)) (now (s .exit)) r ⌝ }
 {
     let h = m.header;
     let next = m.next;
     let body = to + 24 + round_up(h.run);
     move_run(s, to + 24, at + 24, h.run);
-    let left = keep_packages(&mut s[..next], h, m.payload, body, rows, n);
+    let left = keep_packages(&mut s[..next], h, m.payload, body, table, near);
     if loses_last(m.packages, left.packages) {
         return to;
     }
@@ -232,10 +253,12 @@ fn keep_message(s: &mut [u8], at: usize, m: Message, to: usize, rows: [Row; 32],
 }
 
 // Keeps what the sheet leaves of a recording that passes, and says where it ends.
-fn keep_messages(s: &mut [u8], rows: [Row; 32], n: usize) -> usize
-    requires { ⌜ length (now s) ≤ 65536 ⌝ }
-    ensures { λ r. ⌜ KeptAll (sheetOf rows n) (now (s .entry)) (now (s .exit)) r ⌝ }
+fn keep_messages(s: &mut [u8], table: &[u64]) -> usize
+    requires { ⌜ (length (now s) ≤ 65536) × (length (now table) ≤ 224) ⌝ }
+    ensures { λ r. ⌜ KeptAll (rowsIn (now (table .entry))) (now (s .entry)) (now (s .exit)) r ⌝ }
 {
+    // Room for all 32 rows of a sheet, four numbers each.
+    let mut near = [0u64; 128];
     let mut to = 0;
     let mut at = 0;
     while at < s.len() {
@@ -244,7 +267,7 @@ fn keep_messages(s: &mut [u8], rows: [Row; 32], n: usize) -> usize
             return to;
         };
         let next = m.next;
-        to = keep_message(s, at, m, to, rows, n);
+        to = keep_message(s, at, m, to, table, &mut near);
         at = next;
     }
     to
@@ -254,18 +277,17 @@ fn keep_messages(s: &mut [u8], rows: [Row; 32], n: usize) -> usize
 pub fn purge(buffer: &mut [u8], sheet: &[u8]) -> Written
     ensures { λ r. ⌜ told r (now (buffer .exit)) ≡ purge (now (buffer .entry)) (now (sheet .entry)) ⌝ }
 {
-    let read = read_sheet(sheet);
-    let answer = read.answer;
-    match answer {
-        SheetAnswer::Refused(f) => Written::Refused(f),
-        SheetAnswer::Good => {
-            let rows = read.rows;
-            let n = read.count;
+    let mut table = [0u64; 224];
+    let read = read_table(sheet, &mut table);
+    match read {
+        TableAnswer::Refused(f) => Written::Refused(f),
+        TableAnswer::Rows(n) => {
             let checked = check(buffer);
             match checked {
                 Checked::Refused(f) => Written::Refused(f),
                 Checked::Passed { .. } => {
-                    let bytes = keep_messages(buffer, rows, n);
+                    let end = 7 * n;
+                    let bytes = keep_messages(buffer, &table[..end]);
                     put_zeros(buffer, bytes, buffer.len() - bytes);
                     Written::Done { bytes }
                 }

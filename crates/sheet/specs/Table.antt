@@ -1,5 +1,5 @@
 -- A sheet as a table of plain numbers, and of a table the rows that can grant something in one message.
-use Prim.Native.Nat.{ℕ}
+use Prim.Native.Nat.{ℕ, _/_, _%_}
 use mathlib.Core.Path.{_≡_}
 use mathlib.Core.Bool.{Bool, true, false, not, _&&_, _||_}
 use mathlib.Core.List.{List, [], _∷_}
@@ -22,6 +22,28 @@ oneIf false = 0
 unfoldable pub tableOf : List rules.Row → List ℕ
 tableOf [] = []
 tableOf (r ∷ rs) = r .firstMessage ∷ r .lastMessage ∷ r .firstPackage ∷ r .lastPackage ∷ startOf r ∷ endOf r ∷ oneIf (r .acquiredOnly) ∷ tableOf rs
+
+-- the way back: the rows whose numbers a table has. Fewer than seven numbers are no row
+unfoldable pub rowsIn : List ℕ → List rules.Row
+rowsIn (a ∷ b ∷ c ∷ d ∷ s ∷ e ∷ acquired ∷ table) = record {
+  firstMessage = a;
+  lastMessage = b;
+  firstPackage = c;
+  lastPackage = d;
+  startSeconds = s / 1000000000;
+  startNanos = s % 1000000000;
+  endSeconds = e / 1000000000;
+  endNanos = e % 1000000000;
+  spare = 0;
+  acquiredOnly = eqb acquired 1;
+} ∷ rowsIn table
+rowsIn [] = []
+rowsIn (a ∷ []) = []
+rowsIn (a ∷ b ∷ []) = []
+rowsIn (a ∷ b ∷ c ∷ []) = []
+rowsIn (a ∷ b ∷ c ∷ d ∷ []) = []
+rowsIn (a ∷ b ∷ c ∷ d ∷ e ∷ []) = []
+rowsIn (a ∷ b ∷ c ∷ d ∷ e ∷ f ∷ []) = []
 
 -- a row with these first and last message ids, and this last number, can grant something in a message with this id, simulated or not
 abbrev pub reaches : ℕ → Bool → ℕ → ℕ → ℕ → Bool

@@ -9,10 +9,12 @@ ghost use lib.ListN.{length, take};
 ghost use lib.Seq.{sets};
 ghost use Rattle.rules.specs.Sheet.{rowFits, grants, sheet, sheetRows};
 ghost use Rattle.rules.specs.Packages.{instant};
+ghost use Rattle.rules.specs.Message.{isSimulated};
 ghost use Rattle.rules.specs.Outcome.{bad, ROW};
 ghost use Rattle.sheet.specs.Rows.{rowIn, rowAt, noRow, someGrants};
 ghost use Rattle.sheet.specs.Reading.{ReadsRow, wrongSize, told, answer};
 ghost use Rattle.sheet.specs.Table.{tableOf, laidOut, countOfRows, toldTable, Keeps, reaches, nearOf, within, nearGrants};
+use message::Header;
 use message::Mdid;
 use message::Pdid;
 use refusal::Refusal;
@@ -38,6 +40,17 @@ pub struct Row {
 pub struct Source {
     pub mdid: Mdid,
     pub simulated: bool,
+}
+
+// What a grant looks at of the message with header h.
+pub fn source_of(h: Header) -> Source
+    ensures { λ r. ⌜ (r .mdid ≡ h .id) × (r .simulated ≡ isSimulated (h .flags)) ⌝ }
+{
+    let mdid = h.id;
+    Source {
+        mdid,
+        simulated: h.flags / 8 % 2 == 1,
+    }
 }
 
 // A time as a whole number of nanoseconds.

@@ -8,10 +8,11 @@ use lib.Seq.{length-take-le}
 use Rattle.rules.specs.Outcome.{good}
 use Rattle.rules.specs.Sheet as rows
 use Rattle.numbered.specs.Quota.{settled, shorter, mostIn}
-use Rattle.numbered.specs.Parts.{rowsIn, Most}
+use Rattle.sheet.specs.Table.{rowsIn}
+use Rattle.numbered.specs.Parts.{Most}
 use Rattle.numbered.specs.Told.{stateOf}
 use Rattle.numbered.proofs.Whole.{most-first, most-is, ids-refused, sheet-refused}
-use Rattle.numbered.proofs.Tables.{rows-read, sheet-refused as read-refused}
+use Rattle.sheet.proofs.TableRows.{rows-read, sheet-refused as read-refused}
 use Rattle.numbered.proofs.copy.Statement.{statement}
 use Rattle.numbered.proofs.copy.Tie as tie
 use Rattle.numbered.proofs.copy.Reads as reads

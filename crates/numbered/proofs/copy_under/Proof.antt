@@ -10,7 +10,8 @@ use lib.Seq.{length-take-le}
 use Rattle.rules.specs.Outcome.{good}
 use Rattle.numbered.specs.declared.Progress.{Progress}
 use Rattle.numbered.specs.Quota.{badIds}
-use Rattle.numbered.specs.Parts.{rowsIn, Single, knownOf, roomOf, refusedIds}
+use Rattle.sheet.specs.Table.{rowsIn}
+use Rattle.numbered.specs.Parts.{Single, knownOf, roomOf, refusedIds}
 use Rattle.numbered.specs.Told.{measured, toldMeasure, stateOf}
 use Rattle.numbered.proofs.Marks.{tells-none}
 use Rattle.numbered.proofs.Whole.{Asked, asked, held-most, messages-refused, measured-alone, consumed-inside, part-short, roomy, marked-part, room-missing, done, as-written}

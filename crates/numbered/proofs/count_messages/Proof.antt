@@ -11,7 +11,8 @@ use Rattle.rules.specs.Reading.{messageAt}
 use Rattle.numbered.specs.declared.Progress.{Progress}
 use Rattle.numbered.specs.declared.MessageTaken.{MessageTaken}
 use Rattle.numbered.specs.declared.Size.{Size}
-use Rattle.numbered.specs.Parts.{rowsIn, readOf, Measured, MeasuredIn, judgedAs}
+use Rattle.sheet.specs.Table.{rowsIn}
+use Rattle.numbered.specs.Parts.{readOf, Measured, MeasuredIn, judgedAs}
 use Rattle.numbered.proofs.Entries.{Spots, spots}
 use Rattle.numbered.proofs.Tally.{Measuring, measure-start, measure-ended, measure-full, measure-refused, fresh-once, packages-few, measure-next, large}
 use Rattle.numbered.proofs.count_messages.Statement.{statement}

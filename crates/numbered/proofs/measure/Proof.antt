@@ -8,9 +8,9 @@ use lib.Seq.{length-take-le}
 use Rattle.rules.specs.Outcome.{good}
 use Rattle.rules.specs.Sheet as rows
 use Rattle.numbered.specs.Quota.{measuredIds, shorter}
-use Rattle.numbered.specs.Parts.{rowsIn}
+use Rattle.sheet.specs.Table.{rowsIn}
 use Rattle.numbered.proofs.Whole.{shorter-least}
-use Rattle.numbered.proofs.Tables.{rows-read, sheet-refused as read-refused}
+use Rattle.sheet.proofs.TableRows.{rows-read, sheet-refused as read-refused}
 use Rattle.numbered.proofs.Alone.{ids-bad, sheet-bad}
 use Rattle.numbered.proofs.measure.Statement.{statement}
 use Rattle.numbered.proofs.measure.Tie as tie

@@ -12,10 +12,10 @@ use Rattle.message.specs.declared.PackageRead.the-variants as P
 use Rattle.message.specs.Answers.{toldPackage}
 use Rattle.rules.specs.Message.{isSimulated}
 use Rattle.rules.specs.Walk.{packageAt}
-use Rattle.sheet.specs.Table.{nearOf, nearGrants}
-use Rattle.numbered.specs.Parts.{rowsIn, messageBy}
+use Rattle.sheet.specs.Table.{rowsIn, nearOf, nearGrants}
+use Rattle.numbered.specs.Parts.{messageBy}
 use Rattle.numbered.proofs.Found.{Found, found, on, still}
-use Rattle.numbered.proofs.Tables.{near-laid}
+use Rattle.sheet.proofs.TableRows.{near-laid}
 use Rattle.numbered.proofs.Packages.{near-asked, Walking, walk-start, walk-ended, walk-stopped, walk-next}
 use Rattle.numbered.proofs.measure_packages.Statement.{statement}
 use Rattle.numbered.proofs.measure_packages.Tie as tie
@@ -23,7 +23,7 @@ use Rattle.numbered.proofs.measure_packages.Reads as reads
 use Rattle.numbered.proofs.measure_packages.Lts as lts
 use Rattle.message.proofs.package_at.Reads as package-at
 use Rattle.message.proofs.package_time.Reads as package-time
-use Rattle.numbered.proofs.source_of.Reads as source-of
+use Rattle.sheet.proofs.source_of.Reads as source-of
 use Rattle.numbered.proofs.with_package.Reads as with-package
 use Rattle.sheet.proofs.near_grants.Reads as near-grants
 use Rattle.sheet.proofs.near_rows.Reads as near-rows

@@ -7,7 +7,7 @@ use lib.Seq.{length-take-le}
 use borrow.Author.Needs.{needs}
 use Rattle.numbered.specs.declared.Answer.the-variants as answer
 use Rattle.numbered.specs.declared.Numbered.{Numbered}
-use Rattle.numbered.specs.Parts.{rowsIn}
+use Rattle.sheet.specs.Table.{rowsIn}
 use Rattle.numbered.specs.Told.{toldIds}
 use Rattle.numbered.proofs.States.{good-few, good-single}
 use Rattle.numbered.proofs.Twice.{twice-once}

@@ -6,7 +6,7 @@ use Rattle.message.specs.declared.Front.{Front}
 use Rattle.message.specs.declared.FrontRead.the-variants as F
 use Rattle.message.specs.Answers.{toldFront, frontAt}
 use Rattle.message.proofs.Fronts.{Fronted, fronted}
-use Rattle.numbered.specs.Parts.{rowsIn}
+use Rattle.sheet.specs.Table.{rowsIn}
 use Rattle.numbered.proofs.Packages.{took-refused, took-walked}
 use Rattle.numbered.proofs.take_message.Statement.{statement}
 use Rattle.numbered.proofs.take_message.Tie as tie

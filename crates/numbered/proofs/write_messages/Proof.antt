@@ -9,7 +9,8 @@ use Rattle.message.specs.declared.Front.{Front}
 use Rattle.message.specs.declared.FrontRead.the-variants as F
 use Rattle.message.specs.Answers.{frontAt, toldFront}
 use Rattle.message.proofs.Fronts.{Fronted, fronted}
-use Rattle.numbered.specs.Parts.{rowsIn, Marked, Roomy}
+use Rattle.sheet.specs.Table.{rowsIn}
+use Rattle.numbered.specs.Parts.{Marked, Roomy}
 use Rattle.numbered.proofs.Marks.{sees-none}
 use Rattle.numbered.proofs.Written.{Writing, write-start, write-ended, write-refused, ready, fits, few′, write-next, ids-same, next-same}
 use Rattle.numbered.proofs.write_messages.Statement.{statement}

@@ -21,11 +21,10 @@ use Rattle.rules.proofs.Outcomes.{passed, stepped, fronted, good-inj, good≢ba
 use Rattle.rules.proofs.Kept.{take-sets}
 use Rattle.refusal.specs.declared.Refusal.{Refusal}
 use Rattle.refusal.specs.Numbers.{numberOf}
 use Rattle.sheet.specs.declared.TableAnswer.{TableAnswer}
 use Rattle.sheet.specs.declared.TableAnswer.the-variants as answer
-use Rattle.sheet.specs.Table.{oneIf, tableOf, reaches, nearOf, nearGrants, countOfRows, laidOut, toldTable}
+use Rattle.sheet.specs.Table.{oneIf, tableOf, rowsIn, reaches, nearOf, nearGrants, countOfRows, laidOut, toldTable}
 use Rattle.sheet.proofs.Table.{near-is, length-table, sheet-few}
-use Rattle.numbered.specs.Parts.{rowsIn}
 
 -- ---- the near rows of a table are those of its rows
 
