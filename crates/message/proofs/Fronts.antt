@@ -23,50 +23,37 @@ use Rattle.rules.proofs.Passed.{Sound, sound}
 use Rattle.rules.proofs.Run.{run-ends}
 use Rattle.refusal.specs.declared.Refusal.{Refusal}
 use Rattle.refusal.specs.declared.Why.the-variants as why
-use Rattle.message.proofs.Checks.{short}
+use Rattle.message.proofs.Headers.{short-header, unread, headed, header-sound}
 use Rattle.message.proofs.Messages.{by-bytes}
-use Rattle.message.specs.Answers.{headOf, headerOf, eightAndNine, toldMessage, FrontSpot, frontSpot, frontHere, frontAt, spotOfFront, toldFront}
-use Rattle.message.specs.declared.Raw.{Raw}
+use Rattle.message.specs.Answers.{headOfHeader, toldHeader, headerHere, eightAndNine, toldMessage, frontHere, frontAt, payloadFrom, nextFrom}
 use Rattle.message.specs.declared.Header.{Header}
+use Rattle.message.specs.declared.HeaderRead.the-variants as headerRead
 use Rattle.message.specs.declared.Message.{Message}
 use Rattle.message.specs.declared.MessageRead.the-variants as messageRead
-use Rattle.message.specs.declared.Front.{Front}
-use Rattle.message.specs.declared.FrontRead.the-variants as frontRead
 
 -- ---- checks 1 to 9 of the message at the start of s
 module _ (p : ℕ) (s : List ℕ) where
-  pub short-here : length s < 24 → bad SHORT p ≡ frontHere p s
-  unfolding frontHere checksOneToNine optionRunLength
-  short-here a = sym (stop _ _ (stop _ _ (stop-before _ _ (sym (short p s (head s) a)))))
+  pub not-seven : {n q : ℕ} → bad n q ≡ headerHere p s → bad n q ≡ frontHere p s
+  unfolding frontHere checksOneToNine
+  not-seven e = sym (stop _ _ (stop _ _ (unread p s e)))
 
-  -- what checks 1 to 7 say of the header
-  pub header-sound : (h : Head) (n : ℕ) → optionRunLength p s h ≡ good n → Sound s h
-  unfolding optionRunLength
-  header-sound h n e = sound p s h (came-after _ _ e .0)
+  module _ (h : Header) (e : toldHeader (headerRead.Header h) ≡ headerHere p s) where
+    gate : eightAndNine p (headOfHeader h) ≡ checksEightAndNine p s (head s)
+    gate =
+        let k = headed p s h e in
+        let d = header-sound p s (head s) (k .run) in
+        ap (eightAndNine p) (k .same) ∙ by-bytes p (head s) s (d .most)
 
-  module _ (h : Raw) (eh : headOf h ≡ head s) where
-    pub not-seven : {n q : ℕ} → bad n q ≡ optionRunLength p s (headOf h) → bad n q ≡ frontHere p s
+    pub not-nine : {m q : ℕ} → bad m q ≡ eightAndNine p (headOfHeader h) → bad m q ≡ frontHere p s
     unfolding frontHere checksOneToNine
-    not-seven e = sym (stop _ _ (stop _ _ (rw (← eh) (sym e))))
+    not-nine g = sym (stop _ _ (step _ _ (headed p s h e .run) (stop-before _ _ (sym (g ∙ gate)))))
 
-    module _ (n : ℕ) (e : good n ≡ optionRunLength p s (headOf h)) where
-      seven : optionRunLength p s (head s) ≡ good n
-      seven = rw (← eh) (sym e)
-
-      gate : eightAndNine p (headOf h) ≡ checksEightAndNine p s (head s)
-      gate = by-bytes p (headOf h) s (header-sound (headOf h) n (sym e) .most) ∙ ap (checksEightAndNine p s) eh
-
-      pub not-nine : {m q : ℕ} → bad m q ≡ eightAndNine p (headOf h) → bad m q ≡ frontHere p s
-      unfolding frontHere checksOneToNine
-      not-nine g = sym (stop _ _ (step _ _ seven (stop-before _ _ (sym (g ∙ gate)))))
-
-      pub fronting : good tt ≡ eightAndNine p (headOf h) → (r : Header) (x y : ℕ) → r ≡ headerOf h n → x ≡ 24 + 4 * h .words → y ≡ h .size
-          → toldFront (frontRead.Front (record { header = r; payload = p + x; next = p + y })) ≡ frontHere p s
-      unfolding frontHere checksOneToNine
-      fronting g r x y er ex ey =
-          let d = header-sound (headOf h) n (sym e) in
-          let f : good (frontSpot p (headOf h) n) ≡ frontHere p s = sym (step _ _ (step _ _ seven (after _ _ (sym (g ∙ gate)) refl)) (rw (← eh))) in
-          rw (er, ex, ey) (rw (d .version, d .kind) at f)
+    pub fronting : good tt ≡ eightAndNine p (headOfHeader h) → toldHeader (headerRead.Header h) ≡ frontHere p s
+    unfolding frontHere checksOneToNine
+    fronting g =
+        let k = headed p s h e in
+        let f : good (head s, h .run) ≡ frontHere p s = sym (step _ _ (step _ _ (k .run) (after _ _ (sym (g ∙ gate)) refl)) refl) in
+        ap (λ (z : Head). good (z, h .run)) (k .same) ∙ f
 
 -- ---- the message at a place of a recording
 module _ (s : List ℕ) (p : ℕ) where
@@ -75,13 +62,13 @@ module _ (s : List ℕ) (p : ℕ) where
   large a = sym (halt _ _ _ _ (lt-ltb 65536 (length s) a))
 
   module _ (a : length s ≤ 65536) where
-    pub here : {o : Outcome FrontSpot} → o ≡ frontHere p (take (length s - p) (drop p s)) → o ≡ frontAt s p
+    pub here : {o : Outcome (Head × ℕ)} → o ≡ frontHere p (take (length s - p) (drop p s)) → o ≡ frontAt s p
     unfolding frontAt frontHere
     here e = sym (pass _ _ _ _ (le-ltb 65536 (length s) a) (sym (rw rest at e)))
 
     pub behind : length s < p → bad SHORT p ≡ frontAt s p
     unfolding frontAt frontHere
-    behind b = sym (pass _ _ _ _ (le-ltb 65536 (length s) a) (sym (short-here p (drop p s) (omega (arith, length-drop p s)))))
+    behind b = sym (pass _ _ _ _ (le-ltb 65536 (length s) a) (sym (not-seven p (drop p s) (short-header p (drop p s) (omega (arith, length-drop p s))))))
 
 -- ---- a cut at another place
 
@@ -143,7 +130,7 @@ module _ (p : ℕ) (s : List ℕ) (h : Head) where
   unfolding checksOneToNine
   nine-sound e =
       let (m, o, z) = stepped _ _ e in
-      header-sound p s h m o
+      header-sound p s h o
 
   nine-run : {n : ℕ} → checksOneToNine p s h ≡ good n → 24 + n ≤ payloadStart h
   unfolding checksOneToNine optionRunLength
@@ -158,7 +145,7 @@ module _ (p : ℕ) (s : List ℕ) (h : Head) where
 -- ---- for a caller that walks over the packages itself
 
 -- a message that is refused by checks 1 to 9
-pub front-refused : (s : List ℕ) (k : ℕ) (f : Refusal) → toldFront (frontRead.Refused f) ≡ frontAt s k → toldMessage (messageRead.Refused f) ≡ messageAt s k
+pub front-refused : (s : List ℕ) (k : ℕ) (f : Refusal) → toldHeader (headerRead.Refused f) ≡ frontAt s k → toldMessage (messageRead.Refused f) ≡ messageAt s k
 unfolding frontAt messageAt
 front-refused s k f e =
     sym
@@ -167,73 +154,76 @@ front-refused s k f e =
     (refused-at _ _ _ _ (sym e)))
 
 -- one that passes them
-record Known (s : List ℕ) (k : ℕ) (m : Front) : Type 0 where
+pub record Known (s : List ℕ) (k : ℕ) (h : Header) : Type 0 where
   pub small : length s ≤ 65536
-  pub nine : checksOneToNine k (drop k s) (head (drop k s)) ≡ good (m .header .run)
-  pub spot : frontSpot k (head (drop k s)) (m .header .run) ≡ spotOfFront m
+  pub nine : checksOneToNine k (drop k s) (head (drop k s)) ≡ good (h .run)
+  pub same : headOfHeader h ≡ head (drop k s)
 
-known : (s : List ℕ) (k : ℕ) (m : Front) → toldFront (frontRead.Front m) ≡ frontAt s k → Known s k m
+pub known : (s : List ℕ) (k : ℕ) (h : Header) → toldHeader (headerRead.Header h) ≡ frontAt s k → Known s k h
 unfolding frontAt
-known s k m e =
+known s k h e =
     let (a, g) = passed _ _ _ _ (sym e) in
     let (n, q, f) = stepped _ _ g in
-    let z : n ≡ m .header .run = ap (λ (x : FrontSpot). x .run) (good-inj f) in
-    record { small = ltb-false _ _ a; nine = rw (← z) q; spot = ap (frontSpot k (head (drop k s))) (sym z) ∙ good-inj f }
+    let z = good-inj f in
+    let m : n ≡ h .run = ap (λ (r : Head × ℕ). r .1) z in
+    record { small = ltb-false _ _ a; nine = rw (← m) q; same = ap (λ (r : Head × ℕ). r .0) (sym z) }
 
 -- its places lie in the recording, in this order, and its option run lies in front of its payload
-pub record Fronted (s : List ℕ) (k : ℕ) (m : Front) : Type 0 where
+pub record Fronted (s : List ℕ) (k : ℕ) (h : Header) : Type 0 where
   pub whole : length s ≤ 65536
-  pub within : m .next ≤ length s
-  pub forth : m .payload ≤ m .next
-  pub behind : k + 24 ≤ m .payload
-  pub on : k < m .next
-  pub run : k + 24 + m .header .run ≤ m .payload
-  pub long : length (take (m .next - m .payload) (drop (m .payload) s)) ≡ m .next - m .payload
-  pub small : length (take (m .next - m .payload) (drop (m .payload) s)) ≤ 65536
+  pub within : nextFrom k h ≤ length s
+  pub forth : payloadFrom k h ≤ nextFrom k h
+  pub behind : k + 24 ≤ payloadFrom k h
+  pub on : k < nextFrom k h
+  pub run : k + 24 + h .run ≤ payloadFrom k h
+  pub long : length (take (nextFrom k h - payloadFrom k h) (drop (payloadFrom k h) s)) ≡ nextFrom k h - payloadFrom k h
+  pub small : length (take (nextFrom k h - payloadFrom k h) (drop (payloadFrom k h) s)) ≤ 65536
 
-module _ (s : List ℕ) (k : ℕ) (m : Front) where
+module _ (s : List ℕ) (k : ℕ) (h : Header) where
   -- the payload and the option run, as they are lent
   abbrev lent : List ℕ
-  lent = take (m .next - m .payload) (drop (m .payload) s)
+  lent = take (nextFrom k h - payloadFrom k h) (drop (payloadFrom k h) s)
 
   abbrev options : List ℕ
-  options = take (k + 24 + m .header .run - (k + 24)) (drop (k + 24) s)
+  options = take (k + 24 + h .run - (k + 24)) (drop (k + 24) s)
 
   abbrev t : List ℕ
   t = drop k s
 
-  module _ (f : Known s k m) where
-    payload-at : k + payloadStart (head t) ≡ m .payload
-    payload-at = ap (λ (x : FrontSpot). x .payload) (f .spot)
+  module _ (f : Known s k h) where
+    words-are : payloadStart (head t) ≡ 24 + 4 * h .words
+    words-are = sym (ap payloadStart (f .same))
 
-    next-at : k + head t .size ≡ m .next
-    next-at = ap (λ (x : FrontSpot). x .next) (f .spot)
+    size-is : head t .size ≡ h .length
+    size-is = sym (ap (λ (x : Head). x .size) (f .same))
+
+    payload-at : k + payloadStart (head t) ≡ payloadFrom k h
+    payload-at = omega (arith, words-are)
 
     lent-is : lent ≡ payload t (head t)
     lent-is =
-        let e : m .next - m .payload ≡ head t .size - payloadStart (head t) = omega (arith, payload-at, next-at) in
+        let e : nextFrom k h - payloadFrom k h ≡ head t .size - payloadStart (head t) = omega (arith, words-are, size-is) in
         rw (e, ← payload-at, drop-drop)
 
-    options-are : options ≡ part 24 (24 + m .header .run) t
+    options-are : options ≡ part 24 (24 + h .run) t
     options-are =
-        let e : k + 24 + m .header .run - (k + 24) ≡ 24 + m .header .run - 24 = omega arith in
+        let e : k + 24 + h .run - (k + 24) ≡ 24 + h .run - 24 = omega arith in
         rw (e, drop-drop)
 
-    in-order : Fronted s k m
+    in-order : Fronted s k h
     in-order =
-        let h = nine-sound k t (head t) (f .nine) in
+        let d = nine-sound k t (head t) (f .nine) in
         let r = nine-run k t (head t) (f .nine) in
-        let within : m .next ≤ length s = omega (arith, next-at, h .most, h .long, length-drop k s) in
-        let forth : m .payload ≤ m .next = omega (arith, payload-at, next-at, h .least) in
-        let behind : k + 24 ≤ m .payload = omega (arith, payload-at) in
-        let long : length lent ≡ m .next - m .payload = length-take-le (m .next - m .payload) (drop (m .payload) s) (omega (arith, length-drop (m .payload) s)) in
+        let within : nextFrom k h ≤ length s = omega (arith, size-is, d .most, d .long, length-drop k s) in
+        let forth : payloadFrom k h ≤ nextFrom k h = omega (arith, words-are, size-is, d .least) in
+        let long : length lent ≡ nextFrom k h - payloadFrom k h = length-take-le (nextFrom k h - payloadFrom k h) (drop (payloadFrom k h) s) (omega (arith, length-drop (payloadFrom k h) s)) in
         record {
           whole = f .small;
           within = within;
           forth = forth;
-          behind = behind;
+          behind = omega arith;
           on = omega arith;
-          run = omega (arith, r, payload-at);
+          run = omega (arith, r, words-are);
           long = long;
           small = omega (arith, long, f .small);
         }
@@ -247,38 +237,38 @@ module _ (s : List ℕ) (k : ℕ) (m : Front) where
       cut-there = cut-good (k + payloadStart (head t)) (payload t (head t)) (rw lent-is at e)
 
       told-count : differs (countSaid options) (length cs) ≡ true → bad COUNT k ≡ messageAt s k
-      told-count x = told-bad (other k t (head t) (m .header .run) (f .nine) cs cut-there (rw options-are at x))
+      told-count x = told-bad (other k t (head t) (h .run) (f .nine) cs cut-there (rw options-are at x))
 
       told-good : differs (countSaid options) (length cs) ≡ false
-          → toldMessage (messageRead.Message (record { header = m .header; payload = m .payload; next = m .next; packages = length cs })) ≡ messageAt s k
+          → toldMessage (messageRead.Message (record { header = h; payload = payloadFrom k h; next = nextFrom k h; packages = length cs })) ≡ messageAt s k
       unfolding messageAt messageSpot
       told-good x =
           sym
           (pass _ _ _ _ (le-ltb 65536 (length s) (f .small))
-          (step _ _ (every k t (head t) (m .header .run) (f .nine) cs cut-there (rw options-are at x))
-          (ap (λ (y : FrontSpot). good (record { head = y .head; run = y .run; payload = y .payload; next = y .next; packages = length cs })) (f .spot))))
+          (step _ _ (every k t (head t) (h .run) (f .nine) cs cut-there (rw options-are at x))
+          (ap (λ (y : Head). good (messageSpot k y (h .run, cs))) (sym (f .same)))))
 
-    told-package : (i : ℕ) → cut 0 lent ≡ bad PACKAGE i → bad PACKAGE (m .payload + i) ≡ messageAt s k
+    told-package : (i : ℕ) → cut 0 lent ≡ bad PACKAGE i → bad PACKAGE (payloadFrom k h + i) ≡ messageAt s k
     told-package i e =
-        let c : cut (m .payload) (payload t (head t)) ≡ bad PACKAGE (m .payload + i) = cut-bad (m .payload) (payload t (head t)) (rw lent-is at e) in
-        told-bad (uncut k t (head t) (m .header .run) (f .nine) (rw payload-at c))
+        let c : cut (payloadFrom k h) (payload t (head t)) ≡ bad PACKAGE (payloadFrom k h + i) = cut-bad (payloadFrom k h) (payload t (head t)) (rw lent-is at e) in
+        told-bad (uncut k t (head t) (h .run) (f .nine) (rw payload-at c))
 
-  module _ (e : toldFront (frontRead.Front m) ≡ frontAt s k) where
-    pub fronted : Fronted s k m
-    fronted = in-order (known s k m e)
+  module _ (e : toldHeader (headerRead.Header h) ≡ frontAt s k) where
+    pub fronted : Fronted s k h
+    fronted = in-order (known s k h e)
 
     -- one of its packages does not keep the rules
-    pub front-package : (i : ℕ) → cut 0 (take (m .next - m .payload) (drop (m .payload) s)) ≡ bad PACKAGE i
-        → toldMessage (messageRead.Refused (record { why = why.Package; place = m .payload + i })) ≡ messageAt s k
-    front-package i c = told-package (known s k m e) i c
+    pub front-package : (i : ℕ) → cut 0 (take (nextFrom k h - payloadFrom k h) (drop (payloadFrom k h) s)) ≡ bad PACKAGE i
+        → toldMessage (messageRead.Refused (record { why = why.Package; place = payloadFrom k h + i })) ≡ messageAt s k
+    front-package i c = told-package (known s k h e) i c
 
-    module _ (cs : List (List ℕ)) (c : cut 0 (take (m .next - m .payload) (drop (m .payload) s)) ≡ good cs) where
+    module _ (cs : List (List ℕ)) (c : cut 0 (take (nextFrom k h - payloadFrom k h) (drop (payloadFrom k h) s)) ≡ good cs) where
       -- its option run says another number of packages
-      pub front-count : differs (countSaid (take (k + 24 + m .header .run - (k + 24)) (drop (k + 24) s))) (length cs) ≡ true
+      pub front-count : differs (countSaid (take (k + 24 + h .run - (k + 24)) (drop (k + 24) s))) (length cs) ≡ true
           → toldMessage (messageRead.Refused (record { why = why.Count; place = k })) ≡ messageAt s k
-      front-count x = told-count (known s k m e) cs c x
+      front-count x = told-count (known s k h e) cs c x
 
       -- it passes
-      pub front-message : differs (countSaid (take (k + 24 + m .header .run - (k + 24)) (drop (k + 24) s))) (length cs) ≡ false
-          → toldMessage (messageRead.Message (record { header = m .header; payload = m .payload; next = m .next; packages = length cs })) ≡ messageAt s k
-      front-message x = told-good (known s k m e) cs c x
+      pub front-message : differs (countSaid (take (k + 24 + h .run - (k + 24)) (drop (k + 24) s))) (length cs) ≡ false
+          → toldMessage (messageRead.Message (record { header = h; payload = payloadFrom k h; next = nextFrom k h; packages = length cs })) ≡ messageAt s k
+      front-message x = told-good (known s k h e) cs c x

@@ -1,19 +1,21 @@
 -- Checks 1 to 7, a header alone, and where its option run lies.
 use Prim.Native.Nat.{ℕ, _+_, _-_, _*_, _≤_, _<_}
-use mathlib.Core.Path.{_≡_, sym, ap}
+use mathlib.Core.Path.{_≡_, sym, ap, subst}
+use mathlib.Core.Logic.{⊎-elim}
 use mathlib.Core.List.{List, []}
 use native.Mathlib.Omega.{arith}
 use borrow.Author.Tests.{lt-ltb, le-ltb}
 use lib.ListN.{length, take, drop, length-take, length-drop}
-use Rattle.rules.specs.Outcome.{Outcome, good, bad, LARGE}
+use Rattle.rules.specs.Outcome.{Outcome, good, bad, SHORT, LARGE}
 use Rattle.rules.specs.Bytes.{part}
 use Rattle.rules.specs.Options.{optionRunFrom}
 use Rattle.rules.specs.Message.{Head, head, payloadStart, checksOneToSix, optionRunLength}
 use Rattle.rules.specs.Reading.{header}
-use Rattle.rules.proofs.Outcomes.{pass, halt, step, stop, after, stop-before, came-after, passed, stepped, good-inj}
+use Rattle.rules.proofs.Outcomes.{pass, halt, step, stop, after, stop-before, came-after, passed, stepped, good-inj, good≢bad, refused-step}
 use Rattle.rules.proofs.Run.{run-ends}
 use Rattle.rules.proofs.Passed.{Sound, sound}
-use Rattle.message.specs.Answers.{headOf, headerOf, Opened, toldHeader}
+use Rattle.message.proofs.Checks.{short}
+use Rattle.message.specs.Answers.{headOf, headerOf, headOfHeader, headerHere, Opened, toldHeader}
 use Rattle.rules.specs.Reading.{optionRun, optionStart}
 use Rattle.message.specs.declared.Raw.{Raw}
 use Rattle.message.specs.declared.Header.{Header}
@@ -40,12 +42,53 @@ module _ (p : ℕ) (s : List ℕ) (h : Head) where
       let r = run-ends [] 0 (p + 24) 0 (part 24 (payloadStart h) s) (omega arith) b in
       omega (arith, r .most, d .least, d .most, d .long, length-take (payloadStart h - 24) (drop 24 s), length-drop 24 s)
 
-  pub opened-is : {n : ℕ} → p + length s < 4294967296 → good n ≡ optionRunLength p s h → Opened s h p n
+  -- what checks 1 to 7 say of the header
+  pub header-sound : {n : ℕ} → optionRunLength p s h ≡ good n → Sound s h
   unfolding optionRunLength
-  opened-is l e =
-      let (a, b) = came-after _ _ (sym e) in
-      let d = sound p s h a in
-      record { version = d .version; kind = d .kind; least = d .least; most = d .most; run = run-inside e; place = l }
+  header-sound e = sound p s h (came-after _ _ e .0)
+
+-- the header of the message at the start of s
+module _ (p : ℕ) (s : List ℕ) where
+  pub short-header : length s < 24 → bad SHORT p ≡ headerHere p s
+  unfolding headerHere optionRunLength
+  short-header a = sym (stop _ _ (stop-before _ _ (sym (short p s (head s) a))))
+
+  module _ (h : Raw) (eh : headOf h ≡ head s) where
+    pub not-read : {n q : ℕ} → bad n q ≡ optionRunLength p s (headOf h) → bad n q ≡ headerHere p s
+    unfolding headerHere
+    not-read e = sym (stop _ _ (rw (← eh) (sym e)))
+
+    pub read : (n : ℕ) (r : Header) → good n ≡ optionRunLength p s (headOf h) → r ≡ headerOf h n → toldHeader (headerRead.Header r) ≡ headerHere p s
+    unfolding headerHere
+    read n r e er =
+        let d = header-sound p s (headOf h) (sym e) in
+        let o : optionRunLength p s (head s) ≡ good n = rw (← eh) (sym e) in
+        let g : good (headOf h, n) ≡ headerHere p s = sym (step _ _ o (rw (← eh))) in
+        rw er (rw (d .version, d .kind) at g)
+
+  -- where it is refused, checks 1 to 7 refuse it
+  pub unread : {n q : ℕ} → bad n q ≡ headerHere p s → optionRunLength p s (head s) ≡ bad n q
+  unfolding headerHere
+  unread e = ⊎-elim (λ z. z) (λ z. absurd (good≢bad (sym (z .2)))) (refused-step _ _ (sym e))
+
+-- where it is read, these are its numbers, and checks 1 to 7 pass
+pub record Headed (p : ℕ) (s : List ℕ) (h : Header) : Type 0 where
+  pub same : headOfHeader h ≡ head s
+  pub run : optionRunLength p s (head s) ≡ good (h .run)
+
+pub headed : (p : ℕ) (s : List ℕ) (h : Header) → toldHeader (headerRead.Header h) ≡ headerHere p s → Headed p s h
+unfolding headerHere
+headed p s h e =
+    let (n, q, f) = stepped _ _ (sym e) in
+    let z = good-inj f in
+    let m : n ≡ h .run = ap (λ (r : Head × ℕ). r .1) z in
+    record { same = ap (λ (r : Head × ℕ). r .0) (sym z); run = rw (← m) q }
+
+pub opened : (p : ℕ) (s : List ℕ) (h : Header) → p + length s < 4294967296 → toldHeader (headerRead.Header h) ≡ headerHere p s → Opened s h p
+opened p s h l e =
+    let k = headed p s h e in
+    let d : Sound s (headOfHeader h) = subst (λ (x : Head). Sound s x) (sym (k .same)) (header-sound p s (head s) (k .run)) in
+    record { least = d .least; most = d .most; run = run-inside p s (head s) (sym (k .run)); place = l }
 
 -- a header alone
 module _ (s : List ℕ) where
@@ -53,18 +96,9 @@ module _ (s : List ℕ) where
   unfolding header
   large a = sym (halt _ _ _ _ (lt-ltb 65536 (length s) a))
 
-  module _ (a : length s ≤ 65536) (h : Raw) (eh : headOf h ≡ head s) where
-    pub not-read : {n q : ℕ} → bad n q ≡ optionRunLength 0 s (headOf h) → bad n q ≡ header s
-    unfolding header
-    not-read e = sym (pass _ _ _ _ (le-ltb 65536 (length s) a) (stop _ _ (rw (← eh) (sym e))))
-
-    pub read : (n : ℕ) (r : Header) → good n ≡ optionRunLength 0 s (headOf h) → r ≡ headerOf h n → toldHeader (headerRead.Header r) ≡ header s
-    unfolding header
-    read n r e er =
-        let d = opened-is 0 s (headOf h) (omega arith) e in
-        let o : optionRunLength 0 s (head s) ≡ good n = rw (← eh) (sym e) in
-        let g : good (headOf h, n) ≡ header s = sym (pass _ _ _ _ (le-ltb 65536 (length s) a) (step _ _ o (rw (← eh)))) in
-        rw er (rw (d .version, d .kind) at g)
+  pub alone : {o : Outcome (Head × ℕ)} → length s ≤ 65536 → o ≡ headerHere 0 s → o ≡ header s
+  unfolding header headerHere
+  alone a e = sym (pass _ _ _ _ (le-ltb 65536 (length s) a) (sym e))
 
 -- where the option run of a header that was read lies
 pub record Lies (s : List ℕ) (n : ℕ) : Type 0 where

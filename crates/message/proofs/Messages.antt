@@ -4,12 +4,13 @@ use mathlib.Core.Path.{_≡_, refl, sym, ap, subst, _∙_}
 use mathlib.Core.Logic.{⊎-elim}
 use mathlib.Core.Bool.{Bool, true, false}
 use mathlib.Core.List.{List, [], _∷_, _++_}
+use native.Mathlib.Nat.{add-zero}
 use native.Mathlib.Omega.{arith}
 use borrow.Author.Tests.{lt-ltb, le-ltb, ltb-true, ltb-false}
 use lib.Dec.{ltb}
-use lib.ListN.{length, take, drop, length-drop, length-append, length-map}
-use lib.Seq.{drop-cons, length-take-le}
-use Rattle.rules.specs.Outcome.{Outcome, good, bad, refuse, _>>_, _>>=_, SHORT, LARGE, FRAGMENT, STANDARD, COUNT}
+use lib.ListN.{length, getD, take, drop, length-drop, length-append, length-map}
+use lib.Seq.{drop-cons, getD-drop, length-take-le}
+use Rattle.rules.specs.Outcome.{Outcome, good, bad, refuse, _>>_, _>>=_, SHORT, VERSION, LARGE, FRAGMENT, STANDARD, COUNT}
 use Rattle.rules.specs.Bytes.{at, part, oneIfAny}
 use Rattle.rules.specs.Items.{Fills, none, more}
 use Rattle.rules.specs.Options.{countSaid, differs}
@@ -21,12 +22,12 @@ use Rattle.rules.proofs.Passed.{passes}
 use Rattle.rules.proofs.Loops.{rest, Doing, doing-start, doing-next, doing-end, doing-bad}
 use Rattle.rules.proofs.Cut as Cut
 use Rattle.message.proofs.Tests.{is, isnt}
-use Rattle.message.proofs.Checks.{short}
-use Rattle.message.specs.Answers.{headOf, headerOf, oneIfBytes, eightAndNine, Opened, cutCount, spotBehindRun, messageHere, toldMessage}
+use Rattle.message.proofs.Checks.{short, version}
+use Rattle.message.proofs.Headers.{unread, headed}
+use Rattle.message.specs.Answers.{headOfHeader, toldHeader, headerHere, oneIfBytes, eightAndNine, Opened, cutCount, spotBehindRun, messageHere}
 use Rattle.rules.specs.Reading.{MessageSpot, messageSpot, messageAt}
-use Rattle.message.specs.declared.Raw.{Raw}
 use Rattle.message.specs.declared.Header.{Header}
-use Rattle.message.specs.declared.MessageRead.the-variants as messageRead
+use Rattle.message.specs.declared.HeaderRead.the-variants as headerRead
 
 -- a part is empty or not by its ends
 any-part : (s : List ℕ) (a e : ℕ) → e ≤ length s → oneIfAny (part a e s) ≡ oneIfBytes a e
@@ -70,7 +71,13 @@ module _ (p : ℕ) (h : Head) where
   unfolding eightAndNine checksEightAndNine
   by-bytes s l = rw (any-part s (payloadStart h) (h .size) l)
 
-module _ (p : ℕ) (s : List ℕ) (h : Head) (n : ℕ) (o : Opened s h p n) where
+module _ (p : ℕ) (s : List ℕ) (r : Header) (o : Opened s r p) where
+  abbrev h : Head
+  h = headOfHeader r
+
+  abbrev n : ℕ
+  n = r .run
+
   pub unfit : {m q : ℕ} → bad m q ≡ eightAndNine p h → bad m q ≡ spotBehindRun p s h n
   unfolding spotBehindRun
   unfit e = sym (stop-before _ _ (sym (e ∙ by-bytes p h s (o .most))))
@@ -100,12 +107,6 @@ module _ (p : ℕ) (s : List ℕ) (h : Head) (n : ℕ) (o : Opened s h p n) wher
           let w : length cs ≡ k = good-inj d in
           sym (after _ _ fit (step _ _ g (pass _ _ _ _ (rw w x) (rw (w, ef, ez)))))
 
--- the header as it is told
-pub told : (h : Raw) (n : ℕ) (r : Header) (x y k : ℕ) {o : Outcome MessageSpot} → h .version ≡ 1 → h .kind ≡ 0 → r ≡ headerOf h n
-    → good (record { head = headOf h; run = n; payload = x; next = y; packages = k }) ≡ o
-    → toldMessage (messageRead.Message (record { header = r; payload = x; next = y; packages = k })) ≡ o
-told h n r x y k v w er g = rw er (rw (v, w) at g)
-
 -- ---- every check
 
 -- COUNT is found of the spot or of the pieces alike
@@ -129,16 +130,17 @@ module _ (p : ℕ) (s : List ℕ) (h : Head) where
   regroup (good tt) (bad x y) n = refl
   regroup (bad x y) o n = refl
 
-module _ (p : ℕ) (s : List ℕ) (h : Raw) (eh : headOf h ≡ head s) where
-  pub not-open : {n q : ℕ} → bad n q ≡ optionRunLength p s (headOf h) → bad n q ≡ messageHere p s
+module _ (p : ℕ) (s : List ℕ) where
+  pub not-open : {n q : ℕ} → bad n q ≡ headerHere p s → bad n q ≡ messageHere p s
   unfolding messageHere everyCheck checksOneToTen checksOneToNine
-  not-open e = sym (stop _ _ (stop _ _ (stop _ _ (stop _ _ (rw (← eh) (sym e))))))
+  not-open e = sym (stop _ _ (stop _ _ (stop _ _ (stop _ _ (unread p s e)))))
 
-  pub framing : (n : ℕ) {o : Outcome MessageSpot} → good n ≡ optionRunLength p s (headOf h) → o ≡ spotBehindRun p s (headOf h) n → o ≡ messageHere p s
+  pub framing : (h : Header) {o : Outcome MessageSpot} → toldHeader (headerRead.Header h) ≡ headerHere p s → o ≡ spotBehindRun p s (headOfHeader h) (h .run) → o ≡ messageHere p s
   unfolding messageHere everyCheck checksOneToTen checksOneToNine spotBehindRun
-  framing n e f =
-      let g : optionRunLength p s (head s) ≡ good n = rw (← eh) (sym e) in
-      (rw eh at f) ∙ sym (ap (λ (o : Outcome ℕ). spotOf p s (head s) o (cut (p + payloadStart (head s)) (payload s (head s)))) (step _ _ g refl) ∙ regroup p s (head s) _ _ _)
+  framing h e f =
+      let k = headed p s h e in
+      let g : spotBehindRun p s (headOfHeader h) (h .run) ≡ spotBehindRun p s (head s) (h .run) = ap (λ (x : Head). spotBehindRun p s x (h .run)) (k .same) in
+      f ∙ g ∙ sym (ap (λ (o : Outcome ℕ). spotOf p s (head s) o (cut (p + payloadStart (head s)) (payload s (head s)))) (step _ _ (k .run) refl) ∙ regroup p s (head s) _ _ _)
 
 -- ---- the message at a place of a recording
 module _ (s : List ℕ) (p : ℕ) where
@@ -147,11 +149,17 @@ module _ (s : List ℕ) (p : ℕ) where
   large a = sym (halt _ _ _ _ (lt-ltb 65536 (length s) a))
 
   module _ (a : length s ≤ 65536) where
-    pub behind : length s < p → bad SHORT p ≡ messageAt s p
-    unfolding messageAt messageHere everyCheck checksOneToTen checksOneToNine optionRunLength
-    behind b =
-        let e : checksOneToSix p (drop p s) (head (drop p s)) ≡ bad SHORT p = sym (short p (drop p s) (head (drop p s)) (omega (arith, length-drop p s))) in
-        sym (pass _ _ _ _ (le-ltb 65536 (length s) a) (stop _ _ (stop _ _ (stop _ _ (stop _ _ (stop-before _ _ e))))))
+    -- what checks 1 to 6 refuse
+    refused : {n q : ℕ} → bad n q ≡ checksOneToSix p (drop p s) (head (drop p s)) → bad n q ≡ messageAt s p
+    unfolding messageAt everyCheck checksOneToTen checksOneToNine optionRunLength
+    refused e = sym (pass _ _ _ _ (le-ltb 65536 (length s) a) (stop _ _ (stop _ _ (stop _ _ (stop _ _ (stop-before _ _ (sym e)))))))
+
+    pub few : length s < p + 24 → bad SHORT p ≡ messageAt s p
+    few b = refused (short p (drop p s) (head (drop p s)) (omega (arith, length-drop p s)))
+
+    pub other-version : p + 24 ≤ length s → (getD s p 0 / 16 ≡ 1 → ⊥) → bad VERSION p ≡ messageAt s p
+    unfolding head
+    other-version b c = refused (version p (drop p s) (head (drop p s)) (omega (arith, length-drop p s)) (λ z. c (rw (getD-drop p s 0 0, add-zero) at z)))
 
     pub here : {o : Outcome MessageSpot} → o ≡ messageHere p (take (length s - p) (drop p s)) → o ≡ messageAt s p
     unfolding messageAt messageHere
@@ -192,9 +200,9 @@ reading p s d e =
       most = w .header .most;
     })
 
-unread : (p : ℕ) (s : List ℕ) {n q : ℕ} → messageHere p s ≡ bad n q → message p s ≡ bad n q
+no-record : (p : ℕ) (s : List ℕ) {n q : ℕ} → messageHere p s ≡ bad n q → message p s ≡ bad n q
 unfolding messageHere message
-unread p s e = ⊎-elim (λ z. stop _ _ z) (λ z. absurd (good≢bad (sym (z .2)))) (refused-step _ _ e)
+no-record p s e = ⊎-elim (λ z. stop _ _ z) (λ z. absurd (good≢bad (sym (z .2)))) (refused-step _ _ e)
 
 packages-snoc : (l : List Message) (m : Message) → packagesOf (l ++ (m ∷ [])) ≡ packagesOf l + length (m .packages)
 unfolding packagesOf
@@ -239,7 +247,7 @@ module _ (s : List ℕ) (i m n : ℕ) (c : Checking s i m n) where
   module _ (a : length s ≤ 65536) where
     pub stopped : {k q : ℕ} → i < length s → bad k q ≡ messageHere i (take (length s - i) (drop i s)) → bad k q ≡ checkedRecording s
     unfolding checkedRecording recording
-    stopped l e = sym (stop _ _ (pass _ _ _ _ (le-ltb 65536 (length s) a) (doing-bad message s (c .done) i (c .doing) l (unread i (drop i s) (sym (rw rest at e))))))
+    stopped l e = sym (stop _ _ (pass _ _ _ _ (le-ltb 65536 (length s) a) (doing-bad message s (c .done) i (c .doing) l (no-record i (drop i s) (sym (rw rest at e))))))
 
     pub ended : length s ≤ i → good (m, n) ≡ checkedRecording s
     unfolding checkedRecording recording

@@ -10,7 +10,7 @@ use Rattle.rules.specs.Message.{Head}
 use Rattle.rules.specs.Claims.{TellsApart}
 use Rattle.rules.proofs.Outcomes.{good-inj, good≢bad}
 use Rattle.refusal.proofs.Numbers.{refused-injective}
-use Rattle.message.specs.Answers.{PartOf, headOfHeader, toldHeader, noHead, headerNumbers, spotOfPackage, toldPackage, packageNumbers, spotOfMessage, toldMessage, noMessage, messageNumbers, FrontSpot, spotOfFront, toldFront, toldCount, countNumbers, toldCheck, checkNumbers}
+use Rattle.message.specs.Answers.{PartOf, headOfHeader, toldHeader, noHead, headerNumbers, spotOfPackage, toldPackage, packageNumbers, spotOfMessage, toldMessage, noMessage, messageNumbers, toldCount, countNumbers, toldCheck, checkNumbers}
 use Rattle.rules.specs.Walk.{PackageSpot}
 use Rattle.rules.specs.Reading.{MessageSpot}
 use Rattle.message.specs.declared.Header.{Header}
@@ -22,8 +22,6 @@ use Rattle.message.specs.declared.PackageRead.{PackageRead}
 use Rattle.message.specs.declared.PackageRead.the-variants as packageRead
 use Rattle.message.specs.declared.MessageRead.{MessageRead}
 use Rattle.message.specs.declared.MessageRead.the-variants as messageRead
-use Rattle.message.specs.declared.Front.{Front}
-use Rattle.message.specs.declared.FrontRead.the-variants as frontRead
 use Rattle.message.specs.declared.Count.{Count}
 use Rattle.message.specs.declared.Count.the-variants as count
 use Rattle.message.specs.declared.Checked.{Checked}
@@ -91,20 +89,6 @@ same-message (messageRead.Message m) (messageRead.Message n) e =
 same-message (messageRead.Message m) (messageRead.Refused r) e = absurd (good≢bad (sym e))
 same-message (messageRead.Refused r) (messageRead.Message m) e = absurd (good≢bad e)
 same-message (messageRead.Refused r) (messageRead.Refused q) e = ap messageRead.Refused (refused-injective r q e)
-
-frontBack : FrontSpot → Front
-frontBack d = record { header = headerBack (d .head, d .run); payload = d .payload; next = d .next }
-
-front-back : (m : Front) → frontBack (spotOfFront m) ≡ m
-unfolding frontBack headerBack
-front-back m = refl
-
-pub same-front : TellsApart toldFront
-same-front (frontRead.Front m) (frontRead.Front n) e =
-    ap frontRead.Front (sym (front-back m) ∙ ap frontBack (good-inj e) ∙ front-back n)
-same-front (frontRead.Front m) (frontRead.Refused r) e = absurd (good≢bad (sym e))
-same-front (frontRead.Refused r) (frontRead.Front m) e = absurd (good≢bad e)
-same-front (frontRead.Refused r) (frontRead.Refused q) e = ap frontRead.Refused (refused-injective r q e)
 
 pub same-count : TellsApart toldCount
 same-count (count.Number m) (count.Number n) e = ap count.Number (good-inj e)

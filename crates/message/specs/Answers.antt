@@ -11,7 +11,7 @@ use Rattle.rules.specs.Outcome.{Outcome, good, refuse, _>>_, _>>=_, Told, FRAGM
 use Rattle.rules.specs.Bytes.{at, half, pad, part}
 use Rattle.rules.specs.Options.{optionSize, optionFits, countSaid, differs}
 use Rattle.rules.specs.Packages.{packageFits, cut}
-use Rattle.rules.specs.Message.{headerBytes, notLarge, Head, head, standardBit, fragmentBits, payloadStart, payload, checksEightAndNine, checksOneToNine, everyCheck}
+use Rattle.rules.specs.Message.{headerBytes, notLarge, Head, head, standardBit, fragmentBits, payloadStart, payload, optionRunLength, checksEightAndNine, checksOneToNine, everyCheck}
 use Rattle.rules.specs.Reading.{MessageSpot, messageSpot}
 use Rattle.rules.specs.Walk.{PackageSpot}
 use Rattle.refusal.specs.Numbers.{numberOf, refused}
@@ -36,9 +36,6 @@ use Rattle.message.specs.declared.PackageRead.{PackageRead}
 use Rattle.message.specs.declared.PackageRead.the-variants as packageRead
 use Rattle.message.specs.declared.MessageRead.{MessageRead}
 use Rattle.message.specs.declared.MessageRead.the-variants as messageRead
-use Rattle.message.specs.declared.Front.{Front}
-use Rattle.message.specs.declared.FrontRead.{FrontRead}
-use Rattle.message.specs.declared.FrontRead.the-variants as frontRead
 use Rattle.message.specs.declared.Checked.{Checked}
 use Rattle.message.specs.declared.Checked.the-variants as checked
 
@@ -133,15 +130,6 @@ eightAndNine p h = do
   refuse (not (eqb (fragmentBits (h .flags)) 0)) FRAGMENT p
   refuse (not (eqb (standardBit (h .flags)) (oneIfBytes (payloadStart h) (h .size)))) STANDARD p
 
--- what checks 1 to 7 leave known of the message at the start of s, which stands at place p and has an option run of n bytes
-pub record Opened (s : List ℕ) (h : Head) (p n : ℕ) : Type 0 where
-  pub version : h .version ≡ 1
-  pub kind : h .kind ≡ 0
-  pub least : 24 + 4 * h .words ≤ h .size
-  pub most : h .size ≤ length s
-  pub run : 24 + n ≤ length s
-  pub place : p + length s < 4294967296
-
 -- ---- a header alone
 
 -- version and type can only be 1 and 0
@@ -161,6 +149,19 @@ headOfHeader h = record {
 abbrev pub toldHeader : HeaderRead → Outcome (Head × ℕ)
 toldHeader (headerRead.Header h) = good (headOfHeader h, h .run)
 toldHeader (headerRead.Refused r) = refused r
+
+-- the header of the message at the start of s, which stands at place p, and how long its option run is
+unfoldable pub headerHere : ℕ → List ℕ → Outcome (Head × ℕ)
+headerHere p s = do
+  n ← optionRunLength p s (head s)
+  good (head s, n)
+
+-- what a header that was read leaves known of the message at the start of s, which stands at place p
+pub record Opened (s : List ℕ) (h : Header) (p : ℕ) : Type 0 where
+  pub least : 24 + 4 * h .words ≤ h .length
+  pub most : h .length ≤ length s
+  pub run : 24 + h .run ≤ length s
+  pub place : p + length s < 4294967296
 
 -- the zeros of a header that is refused
 abbrev pub noHead : Head
@@ -223,35 +224,25 @@ messageNumbers (messageRead.Refused r) = record { number = numberOf (r .why); pl
 
 -- ---- a message in a recording, its packages not looked at
 
--- its header with the option run's length, and where payload and next message begin
-pub record FrontSpot : Type 0 where
-  pub head : Head
-  pub run : ℕ
-  pub payload : ℕ
-  pub next : ℕ
-
-abbrev pub frontSpot : ℕ → Head → ℕ → FrontSpot
-frontSpot p h n = record { head = h; run = n; payload = p + payloadStart h; next = p + h .size }
-
--- the message at the start of s, which stands at place p
-unfoldable pub frontHere : ℕ → List ℕ → Outcome FrontSpot
+-- the header of the message at the start of s, which stands at place p, and how long its option run is: checks 1 to 9
+unfoldable pub frontHere : ℕ → List ℕ → Outcome (Head × ℕ)
 frontHere p s = do
   n ← checksOneToNine p s (head s)
-  good (frontSpot p (head s) n)
+  good (head s, n)
 
--- the message at place p of a recording, read with 12 and 1 to 9
-unfoldable pub frontAt : List ℕ → ℕ → Outcome FrontSpot
+-- that of the message at place p of a recording, read with 12 and 1 to 9
+unfoldable pub frontAt : List ℕ → ℕ → Outcome (Head × ℕ)
 frontAt s p = do
   notLarge s
   n ← checksOneToNine p (drop p s) (head (drop p s))
-  good (frontSpot p (head (drop p s)) n)
+  good (head (drop p s), n)
 
-abbrev pub spotOfFront : Front → FrontSpot
-spotOfFront m = record { head = headOfHeader (m .header); run = m .header .run; payload = m .payload; next = m .next }
+-- where the payload of a message at place p begins, and where the next message does
+abbrev pub payloadFrom : ℕ → Header → ℕ
+payloadFrom p h = p + (24 + 4 * h .words)
 
-abbrev pub toldFront : FrontRead → Outcome FrontSpot
-toldFront (frontRead.Front m) = good (spotOfFront m)
-toldFront (frontRead.Refused r) = refused r
+abbrev pub nextFrom : ℕ → Header → ℕ
+nextFrom p h = p + h .length
 
 -- ---- a recording
 

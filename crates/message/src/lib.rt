@@ -5,6 +5,7 @@ ghost use mathlib.Core.Path.{_≡_};
 ghost use mathlib.Core.Bool.{true};
 ghost use mathlib.Core.List.{[]};
 ghost use Prim.Native.Nat.{_+_, _*_, _/_, _<_};
+ghost use lib.Dec.{ltb};
 ghost use lib.ListN.{length};
 ghost use Rattle.rules.specs.Options as options;
 ghost use Rattle.rules.specs.Message as rule;
@@ -64,18 +65,6 @@ pub struct Message {
 
 pub enum MessageRead {
     Message(Message),
-    Refused(Refusal),
-}
-
-// A message as far as checks 1 to 9 go: its packages are not looked at.
-pub struct Front {
-    pub header: Header,
-    pub payload: usize,
-    pub next: usize,
-}
-
-pub enum FrontRead {
-    Front(Front),
     Refused(Refusal),
 }
 
@@ -401,6 +390,24 @@ fn header_of(h: Raw, run: usize) -> Header
     }
 }
 
+// The header of the message at the start of m, which stands at place p: checks 1 to 7. Fewer than 24 bytes are refused before any number is read.
+fn header_here(m: &[u8], p: usize) -> HeaderRead
+    requires { ⌜ p + length (now m) < 4294967296 ⌝ }
+    ensures { λ r. ⌜ spec.toldHeader r ≡ spec.headerHere p (now (m .entry)) ⌝ }
+{
+    if m.len() < 24 {
+        return HeaderRead::Refused(Refusal {
+            why: Why::Short,
+            place: p,
+        });
+    }
+    let h = raw_of(m);
+    match checks_one_to_seven(m, h, p) {
+        Count::Refused(r) => HeaderRead::Refused(r),
+        Count::Number(n) => HeaderRead::Header(header_of(h, n)),
+    }
+}
+
 // The header of the message at the start of s.
 pub fn read_header(s: &[u8]) -> HeaderRead
     ensures { λ r. ⌜ spec.toldHeader r ≡ reading.header (now (s .entry)) ⌝ }
@@ -411,11 +418,7 @@ pub fn read_header(s: &[u8]) -> HeaderRead
             place: 65536,
         });
     }
-    let h = raw_of(s);
-    match checks_one_to_seven(s, h, 0) {
-        Count::Refused(r) => HeaderRead::Refused(r),
-        Count::Number(n) => HeaderRead::Header(header_of(h, n)),
-    }
+    header_here(s, 0)
 }
 
 // Its option run, as a part of s; empty where the header is refused.
@@ -545,44 +548,43 @@ pub fn miscounts(run: &[u8], packages: usize) -> bool
     }
 }
 
-// Checks 8 and 9 of a message at place p with these numbers that has passed checks 1 to 7: its payload has bytes where it ends behind its beginning.
-fn checks_eight_and_nine(h: Raw, p: usize) -> Gate
-    ensures { λ r. ⌜ spec.toldGate r ≡ spec.eightAndNine p (spec.headOf h) ⌝ }
+// Checks 8 and 9 of a message at place p with this header: its payload has bytes where it ends behind its beginning.
+fn checks_eight_and_nine(h: Header, p: usize) -> Gate
+    ensures { λ r. ⌜ spec.toldGate r ≡ spec.eightAndNine p (spec.headOfHeader h) ⌝ }
 {
     if h.flags / 16 % 4 != 0 {
         return shut(Why::Fragment, p);
     }
     let a = payload_start(h.words);
-    let e = wide32(h.size);
+    let e = wide32(h.length);
     if h.flags / 128 % 2 != one_if_bytes(a, e) {
         return shut(Why::Standard, p);
     }
     Gate::Open
 }
 
-// Checks 8 to 10 and COUNT of the message at the start of m, which stands at place p and has passed checks 1 to 7 with an option run of n bytes.
-fn checks_from_eight(m: &[u8], h: Raw, p: usize, n: usize) -> MessageRead
-    requires { ⌜ spec.Opened (now m) (spec.headOf h) p n ⌝ }
-    ensures { λ r. ⌜ spec.toldMessage r ≡ spec.spotBehindRun p (now (m .entry)) (spec.headOf h) n ⌝ }
+// Checks 8 to 10 and COUNT of the message at the start of m, which stands at place p and has this header.
+fn checks_from_eight(m: &[u8], h: Header, p: usize) -> MessageRead
+    requires { ⌜ spec.Opened (now m) h p ⌝ }
+    ensures { λ r. ⌜ spec.toldMessage r ≡ spec.spotBehindRun p (now (m .entry)) (spec.headOfHeader h) (h .run) ⌝ }
 {
     if let Gate::Shut(r) = checks_eight_and_nine(h, p) {
         return MessageRead::Refused(r);
     }
     let a = payload_start(h.words);
-    let e = wide32(h.size);
+    let e = wide32(h.length);
     match packages_of(&m[a..e], p + a) {
         Count::Refused(r) => MessageRead::Refused(r),
         Count::Number(k) => {
-            let end = 24 + n;
+            let end = 24 + h.run;
             if miscounts(&m[24..end], k) {
                 return MessageRead::Refused(Refusal {
                     why: Why::Count,
                     place: p,
                 });
             }
-            let header = header_of(h, n);
             MessageRead::Message(Message {
-                header,
+                header: h,
                 payload: p + a,
                 next: p + e,
                 packages: k,
@@ -596,44 +598,40 @@ fn message_here(m: &[u8], p: usize) -> MessageRead
     requires { ⌜ p + length (now m) < 4294967296 ⌝ }
     ensures { λ r. ⌜ spec.toldMessage r ≡ spec.messageHere p (now (m .entry)) ⌝ }
 {
-    let h = raw_of(m);
-    match checks_one_to_seven(m, h, p) {
-        Count::Refused(r) => MessageRead::Refused(r),
-        Count::Number(n) => checks_from_eight(m, h, p, n),
+    match header_here(m, p) {
+        HeaderRead::Refused(r) => MessageRead::Refused(r),
+        HeaderRead::Header(h) => checks_from_eight(m, h, p),
     }
 }
 
-// Checks 1 to 9 of the message at the start of m, which stands at place p. Fewer than 24 bytes are refused before any number is read.
-fn front_here(m: &[u8], p: usize) -> FrontRead
+// The header of the message at the start of m, which stands at place p: checks 1 to 9.
+fn front_here(m: &[u8], p: usize) -> HeaderRead
     requires { ⌜ p + length (now m) < 4294967296 ⌝ }
-    ensures { λ r. ⌜ spec.toldFront r ≡ spec.frontHere p (now (m .entry)) ⌝ }
+    ensures { λ r. ⌜ spec.toldHeader r ≡ spec.frontHere p (now (m .entry)) ⌝ }
 {
-    if m.len() < 24 {
-        return FrontRead::Refused(Refusal {
-            why: Why::Short,
-            place: p,
-        });
-    }
-    let h = raw_of(m);
-    match checks_one_to_seven(m, h, p) {
-        Count::Refused(r) => FrontRead::Refused(r),
-        Count::Number(n) => {
+    let found = header_here(m, p);
+    match found {
+        HeaderRead::Refused(_) => found,
+        HeaderRead::Header(h) => {
             if let Gate::Shut(r) = checks_eight_and_nine(h, p) {
-                return FrontRead::Refused(r);
+                return HeaderRead::Refused(r);
             }
-            let header = header_of(h, n);
-            let payload = p + payload_start(h.words);
-            let next = p + wide32(h.size);
-            FrontRead::Front(Front {
-                header,
-                payload,
-                next,
-            })
+            found
         }
     }
 }
 
-// The message at place `at` of a recording.
+// Whether fewer than 24 bytes stand from place `at` on, of n.
+fn is_short(n: usize, at: usize) -> bool
+    ensures { λ r. ⌜ r ≡ ltb n (at + 24) ⌝ }
+{
+    if n < 24 {
+        return true;
+    }
+    n - 24 < at
+}
+
+// The message at place `at` of a recording. Where none can begin, that is told before any call: salvage asks at every offset.
 pub fn message_at(s: &[u8], at: usize) -> MessageRead
     ensures { λ r. ⌜ spec.toldMessage r ≡ reading.messageAt (now (s .entry)) at ⌝ }
 {
@@ -643,27 +641,33 @@ pub fn message_at(s: &[u8], at: usize) -> MessageRead
             place: 65536,
         });
     }
-    if s.len() < at {
+    if is_short(s.len(), at) {
         return MessageRead::Refused(Refusal {
             why: Why::Short,
+            place: at,
+        });
+    }
+    if s[at] / 16 != 1 {
+        return MessageRead::Refused(Refusal {
+            why: Why::Version,
             place: at,
         });
     }
     message_here(&s[at..], at)
 }
 
-// The message at place `at` of a recording, checked but for its packages: 12 and 1 to 9.
-pub fn front_at(s: &[u8], at: usize) -> FrontRead
-    ensures { λ r. ⌜ spec.toldFront r ≡ spec.frontAt (now (s .entry)) at ⌝ }
+// The header of the message at place `at` of a recording, which is checked but for its packages: 12 and 1 to 9.
+pub fn front_at(s: &[u8], at: usize) -> HeaderRead
+    ensures { λ r. ⌜ spec.toldHeader r ≡ spec.frontAt (now (s .entry)) at ⌝ }
 {
     if 65536 < s.len() {
-        return FrontRead::Refused(Refusal {
+        return HeaderRead::Refused(Refusal {
             why: Why::Large,
             place: 65536,
         });
     }
     if s.len() < at {
-        return FrontRead::Refused(Refusal {
+        return HeaderRead::Refused(Refusal {
             why: Why::Short,
             place: at,
         });

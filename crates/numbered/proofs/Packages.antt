@@ -24,13 +24,12 @@ use Rattle.rules.proofs.Growing.{join-append, map-append, granted-append}
 use Rattle.rules.proofs.Loops.{Doing, doing-start, doing-next, doing-end, doing-bad, sets-sets}
 use Rattle.refusal.specs.declared.Refusal.{Refusal}
 use Rattle.message.specs.declared.Header.{Header}
-use Rattle.message.specs.declared.Front.{Front}
-use Rattle.message.specs.declared.FrontRead.the-variants as F
+use Rattle.message.specs.declared.HeaderRead.the-variants as header
 use Rattle.message.specs.declared.Package.{Package}
 use Rattle.message.specs.declared.PackageRead.{PackageRead}
 use Rattle.message.specs.declared.PackageRead.the-variants as P
 use Rattle.message.proofs.PackageRead.{the-type}
-use Rattle.message.specs.Answers.{toldPackage, frontAt, toldFront}
+use Rattle.message.specs.Answers.{toldHeader, toldPackage, frontAt, payloadFrom, nextFrom}
 use Rattle.message.proofs.Fronts.{fronted, front-refused, front-package, front-count, front-message}
 use Rattle.rules.specs.Walk.{packageAt}
 use Rattle.sheet.specs.Table.{rowsIn, nearOf, nearGrants}
@@ -218,26 +217,26 @@ module _ (rs : List rows.Row) (m : Message) (run marks₀ : List ℕ) (first : �
 -- ---- a message whose packages were walked over
 
 module _ (rs : List rows.Row) (input : List ℕ) (k : ℕ) (marks marks′ : List ℕ) (first : ℕ) where
-  pub took-refused : (f : Refusal) → toldFront (F.Refused f) ≡ frontAt input k → Took rs input k marks marks′ first (taking.Refused f)
+  pub took-refused : (f : Refusal) → toldHeader (header.Refused f) ≡ frontAt input k → Took rs input k marks marks′ first (taking.Refused f)
   took-refused f e = record { told = front-refused input k f e; measured = tt }
 
-  module _ (m : Front) (e : toldFront (F.Front m) ≡ frontAt input k) (w : Walked) (o : WalkedOver rs (messageBy (m .header)) (take (m .next - m .payload) (drop (m .payload) input)) marks marks′ first w) where
-    run-long : length (take (m .next - m .payload) (drop (m .payload) input)) ≡ m .next - m .payload
-    run-long = fronted input k m e .long
+  module _ (h : Header) (e : toldHeader (header.Header h) ≡ frontAt input k) (w : Walked) (o : WalkedOver rs (messageBy h) (take (nextFrom k h - payloadFrom k h) (drop (payloadFrom k h) input)) marks marks′ first w) where
+    run-long : length (take (nextFrom k h - payloadFrom k h) (drop (payloadFrom k h) input)) ≡ nextFrom k h - payloadFrom k h
+    run-long = fronted input k h e .long
 
     abbrev said : ℕ → Bool
-    said n = differs (countSaid (take (k + 24 + m .header .run - (k + 24)) (drop (k + 24) input))) n
+    said n = differs (countSaid (take (k + 24 + h .run - (k + 24)) (drop (k + 24) input))) n
 
-    by-end : (b : Bool) → ltb (w .end) (m .next - m .payload) ≡ b → (d : Bool) → said (w .all) ≡ d → Took rs input k marks marks′ first (finishedBy b d k m w)
-    by-end true l d q = record { told = front-package input k m e (w .end) (o .broken (omega (arith, run-long, ltb-true (w .end) (m .next - m .payload) l))); measured = tt }
+    by-end : (b : Bool) → ltb (w .end) (nextFrom k h - payloadFrom k h) ≡ b → (d : Bool) → said (w .all) ≡ d → Took rs input k marks marks′ first (finishedBy b d k h w)
+    by-end true l d q = record { told = front-package input k h e (w .end) (o .broken (omega (arith, run-long, ltb-true (w .end) (nextFrom k h - payloadFrom k h) l))); measured = tt }
     by-end false l true q =
-        let c = o .whole (omega (arith, run-long, ltb-false (w .end) (m .next - m .payload) l)) in
-        record { told = front-count input k m e (o .pieces) c (ap said (sym (o .many)) ∙ q); measured = tt }
+        let c = o .whole (omega (arith, run-long, ltb-false (w .end) (nextFrom k h - payloadFrom k h) l)) in
+        record { told = front-count input k h e (o .pieces) c (ap said (sym (o .many)) ∙ q); measured = tt }
     by-end false l false q =
-        let c = o .whole (omega (arith, run-long, ltb-false (w .end) (m .next - m .payload) l)) in
-        let same : (cs : List (List ℕ)) → cut 0 (take (m .next - m .payload) (drop (m .payload) input)) ≡ good cs → o .pieces ≡ cs = λ cs x. good-inj (sym c ∙ x) in
+        let c = o .whole (omega (arith, run-long, ltb-false (w .end) (nextFrom k h - payloadFrom k h) l)) in
+        let same : (cs : List (List ℕ)) → cut 0 (take (nextFrom k h - payloadFrom k h) (drop (payloadFrom k h) input)) ≡ good cs → o .pieces ≡ cs = λ cs x. good-inj (sym c ∙ x) in
         record {
-          told = rw (o .many) (front-message input k m e (o .pieces) c (ap said (sym (o .many)) ∙ q));
+          told = rw (o .many) (front-message input k h e (o .pieces) c (ap said (sym (o .many)) ∙ q));
           measured = record {
             sized = record {
               small = o .small;
@@ -249,8 +248,8 @@ module _ (rs : List rows.Row) (input : List ℕ) (k : ℕ) (marks marks′ : Lis
           };
         }
 
-    pub took-walked : (r : MessageTaken) → r ≡ finished input k m w → Took rs input k marks marks′ first r
-    took-walked r q = subst (Took rs input k marks marks′ first) (sym q) (by-end (ltb (w .end) (m .next - m .payload)) refl (said (w .all)) refl)
+    pub took-walked : (r : MessageTaken) → r ≡ finished input k h w → Took rs input k marks marks′ first r
+    took-walked r q = subst (Took rs input k marks marks′ first) (sym q) (by-end (ltb (w .end) (nextFrom k h - payloadFrom k h)) refl (said (w .all)) refl)
 
 -- ---- writing
 

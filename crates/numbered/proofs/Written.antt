@@ -12,7 +12,7 @@ use Rattle.rules.specs.Outcome.{Outcome, good, bad}
 use Rattle.rules.specs.Items.{count}
 use Rattle.rules.specs.Packages as rules
 use Rattle.rules.specs.Message as messages
-use Rattle.rules.specs.Message.{head, everyCheck, message}
+use Rattle.rules.specs.Message.{Head, head, payloadStart, everyCheck, message}
 use Rattle.rules.specs.Sheet as rows
 use Rattle.rules.specs.Copy.{Entry, withEntryOf, released}
 use Rattle.rules.proofs.Outcomes.{stop, passed, stepped, good-inj, good≢bad}
@@ -20,10 +20,10 @@ use Rattle.rules.proofs.Growing.{released-append}
 use Rattle.rules.proofs.Loops.{Doing, doing-start, doing-end, doing-bad, sets-sets, _++>_}
 use Rattle.refusal.specs.declared.Refusal.{Refusal}
 use Rattle.message.specs.declared.Message.{Message}
-use Rattle.message.specs.declared.Front.{Front}
-use Rattle.message.specs.declared.FrontRead.the-variants as F
-use Rattle.message.specs.Answers.{FrontSpot, frontAt, toldFront}
-use Rattle.message.proofs.Fronts.{front-refused}
+use Rattle.message.specs.declared.Header.{Header}
+use Rattle.message.specs.declared.HeaderRead.the-variants as header
+use Rattle.message.specs.Answers.{toldHeader, frontAt, payloadFrom, nextFrom}
+use Rattle.message.proofs.Fronts.{front-refused, known}
 use Rattle.wire.specs.Bits.{withBit}
 use Rattle.numbered.specs.declared.Kept.{Kept}
 use Rattle.numbered.specs.declared.Reached.{Reached}
@@ -44,26 +44,23 @@ front done l (good m) e = (m, good-inj e)
 front done l (bad n p) e = absurd (good≢bad (sym e))
 
 -- a message with this front: how many packages it has is not looked at
-abbrev whole : Front → Message
-whole f = record { header = f .header; payload = f .payload; next = f .next; packages = 0 }
+abbrev whole : ℕ → Header → Message
+whole k h = record { header = h; payload = payloadFrom k h; next = nextFrom k h; packages = 0 }
 
 -- the front of a message that passes
-met-front : (recordingBytes : List ℕ) (k : ℕ) (f : Front) → toldFront (F.Front f) ≡ frontAt recordingBytes k
-    → (r : ℕ × List (List ℕ)) → everyCheck k (drop k recordingBytes) (head (drop k recordingBytes)) ≡ good r → Met recordingBytes k (whole f)
-unfolding frontAt
-met-front recordingBytes k f e r q =
-    let (large, g) = passed _ _ _ _ (sym e) in
-    let (n, nine, d) = stepped _ _ g in
-    let s = good-inj d in
+met-front : (recordingBytes : List ℕ) (k : ℕ) (h : Header) → toldHeader (header.Header h) ≡ frontAt recordingBytes k
+    → (r : ℕ × List (List ℕ)) → everyCheck k (drop k recordingBytes) (head (drop k recordingBytes)) ≡ good r → Met recordingBytes k (whole k h)
+met-front recordingBytes k h e r q =
+    let s = sym (known recordingBytes k h e .same) in
     record {
       r = r;
       read = q;
-      flags = ap (λ (x : FrontSpot). x .head .flags) s;
-      id = ap (λ (x : FrontSpot). x .head .id) s;
-      seconds = ap (λ (x : FrontSpot). x .head .seconds) s;
-      nanos = ap (λ (x : FrontSpot). x .head .nanos) s;
-      payload = ap (λ (x : FrontSpot). x .payload) s;
-      next = ap (λ (x : FrontSpot). x .next) s;
+      flags = ap (λ (x : Head). x .flags) s;
+      id = ap (λ (x : Head). x .id) s;
+      seconds = ap (λ (x : Head). x .seconds) s;
+      nanos = ap (λ (x : Head). x .nanos) s;
+      payload = ap (λ (x : Head). k + payloadStart x) s;
+      next = ap (λ (x : Head). k + x .size) s;
     }
 
 -- the bits of the ids held, with an id more
@@ -159,19 +156,19 @@ module _ (rs : List rows.Row) (recordingBytes ids₀ next₀ : List ℕ) (held�
         no-refusal : {n p : ℕ} → message k (drop k recordingBytes) ≡ bad n p → ⊥
         no-refusal b = good≢bad (sym (doing-bad message recordingBytes (inv .done) k (inv .doing) l b) ∙ room .read)
 
-        pub write-refused : (f : Refusal) → toldFront (F.Refused f) ≡ frontAt recordingBytes k → ⊥
+        pub write-refused : (f : Refusal) → toldHeader (header.Refused f) ≡ frontAt recordingBytes k → ⊥
         write-refused f e = no-refusal (no-message recordingBytes k short f (front-refused recordingBytes k f e))
 
-        module _ (marks : List ℕ) (marked : Marked rs recordingBytes marks) (f : Front) (e : toldFront (F.Front f) ≡ frontAt recordingBytes k) where
+        module _ (marks : List ℕ) (marked : Marked rs recordingBytes marks) (h : Header) (e : toldHeader (header.Header h) ≡ frontAt recordingBytes k) where
           abbrev m : Message
-          m = whole f
+          m = whole k h
 
           g : Met recordingBytes k m
           unfolding message
           g = go (everyCheck k (drop k recordingBytes) (head (drop k recordingBytes))) refl
             where
               go : (o : Outcome (ℕ × List (List ℕ))) → everyCheck k (drop k recordingBytes) (head (drop k recordingBytes)) ≡ o → Met recordingBytes k m
-              go (good r) q = met-front recordingBytes k f e r q
+              go (good r) q = met-front recordingBytes k h e r q
               go (bad n p) q = absurd (no-refusal (stop _ _ q))
 
           abbrev id : ℕ

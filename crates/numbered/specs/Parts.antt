@@ -21,11 +21,10 @@ use Rattle.refusal.specs.declared.Why.the-variants as why
 use Rattle.refusal.specs.declared.Why.the-variants.{Ids}
 use Rattle.message.specs.declared.Header.{Header}
 use Rattle.message.specs.declared.Package.{Package}
-use Rattle.message.specs.declared.Front.{Front}
 use Rattle.message.specs.declared.Message as found
 use Rattle.message.specs.declared.MessageRead.{MessageRead}
 use Rattle.message.specs.declared.MessageRead.the-variants as read
-use Rattle.message.specs.Answers.{toldMessage}
+use Rattle.message.specs.Answers.{toldMessage, payloadFrom, nextFrom}
 use Rattle.numbered.specs.declared.Size.{Size}
 use Rattle.numbered.specs.declared.Walked.{Walked}
 use Rattle.numbered.specs.declared.MessageTaken.{MessageTaken}
@@ -96,14 +95,14 @@ pub record WalkedOver (rs : List rows.Row) (m : Message) (run marks marks′ : L
   pub marked : (fs : List Bool) → length fs ≡ first → Tells marks fs → Tells marks′ (fs ++ flagsOf rs m pieces)
 
 -- the message, once its packages were walked over: that they end before its payload does, or are not as many as it says, is told here
-abbrev pub finishedBy : Bool → Bool → ℕ → Front → Walked → MessageTaken
-finishedBy true c at m w = taking.Refused (record { why = why.Package; place = m .payload + w .end })
-finishedBy false true at m w = taking.Refused (record { why = why.Count; place = at })
-finishedBy false false at m w = taking.Message (record { header = m .header; payload = m .payload; next = m .next; packages = w .all }) (w .size)
+abbrev pub finishedBy : Bool → Bool → ℕ → Header → Walked → MessageTaken
+finishedBy true c at h w = taking.Refused (record { why = why.Package; place = payloadFrom at h + w .end })
+finishedBy false true at h w = taking.Refused (record { why = why.Count; place = at })
+finishedBy false false at h w = taking.Message (record { header = h; payload = payloadFrom at h; next = nextFrom at h; packages = w .all }) (w .size)
 
-abbrev pub finished : List ℕ → ℕ → Front → Walked → MessageTaken
-finished input at m w =
-    finishedBy (ltb (w .end) (m .next - m .payload)) (differs (countSaid (take (at + 24 + m .header .run - (at + 24)) (drop (at + 24) input))) (w .all)) at m w
+abbrev pub finished : List ℕ → ℕ → Header → Walked → MessageTaken
+finished input at h w =
+    finishedBy (ltb (w .end) (nextFrom at h - payloadFrom at h)) (differs (countSaid (take (at + 24 + h .run - (at + 24)) (drop (at + 24) input))) (w .all)) at h w
 
 -- what was read, whatever is granted of it
 abbrev pub readOf : MessageTaken → MessageRead

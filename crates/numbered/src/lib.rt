@@ -10,13 +10,13 @@ ghost use lib.ListN.{length, getD, take, drop};
 ghost use lib.Seq.{sets};
 ghost use Rattle.rules.specs.Bytes.{put32};
 ghost use Rattle.rules.specs.Items.{count};
+ghost use Rattle.message.specs.Answers.{payloadFrom, nextFrom};
 ghost use Rattle.sheet.specs.Table.{rowsIn};
 ghost use Rattle.numbered.specs.Quota.{badIds, someTwice, settled, measuredIds, shorter, mostIn};
 ghost use Rattle.numbered.specs.Parts.{messageBy, WalkedOver, finished, Took, withPackage, withEntry, Placed, pieceAs, Stored, StoredRun, picked, headBytes, Place, Sees, slotOf, heldWith, numberAt, Ready, Delivered, Roomy, Wrote, Tells, Marked, Single, Seated, judgedAs, knownOf, roomOf, Most, refusedIds};
 ghost use Rattle.numbered.specs.Told.{progress, toldMeasure, measured, Counts, MarkedBy, stateOf, told, toldIds, MeasuredIds, Copied};
-use message::Front;
-use message::FrontRead;
 use message::Header;
+use message::HeaderRead;
 use message::Message;
 use message::Package;
 use message::PackageRead;
@@ -107,13 +107,12 @@ enum MessageTaken {
 }
 
 // The checks that are left once the packages of a message were walked over: that they fill its payload, and are as many as it says.
-fn finish_message(input: &[u8], at: usize, m: Front, w: Walked) -> MessageTaken
-    requires { ⌜ (length (now input) ≤ 65536) × (m .payload ≤ m .next) × (m .next ≤ length (now input)) × (at + 24 + m .header .run ≤ length (now input)) × (w .end ≤ 65536) ⌝ }
-    ensures { λ r. ⌜ r ≡ finished (now (input .entry)) at m w ⌝ }
+fn finish_message(input: &[u8], at: usize, h: Header, w: Walked) -> MessageTaken
+    requires { ⌜ (length (now input) ≤ 65536) × (payloadFrom at h ≤ nextFrom at h) × (nextFrom at h ≤ length (now input)) × (at + 24 + h .run ≤ length (now input)) × (w .end ≤ 65536) ⌝ }
+    ensures { λ r. ⌜ r ≡ finished (now (input .entry)) at h w ⌝ }
 {
-    let h = m.header;
-    let payload = m.payload;
-    let next = m.next;
+    let payload = at + (24 + 4 * h.words as usize);
+    let next = at + h.length as usize;
     if w.end < next - payload {
         return MessageTaken::Refused(Refusal {
             why: Why::Package,
@@ -154,13 +153,12 @@ fn take_message(
 {
     let found = front_at(input, at);
     match found {
-        FrontRead::Refused(f) => MessageTaken::Refused(f),
-        FrontRead::Front(m) => {
-            let from = m.payload;
-            let next = m.next;
-            let h = m.header;
+        HeaderRead::Refused(f) => MessageTaken::Refused(f),
+        HeaderRead::Header(h) => {
+            let from = at + (24 + 4 * h.words as usize);
+            let next = at + h.length as usize;
             let walked = measure_packages(&input[from..next], h, table, near, marks, first);
-            finish_message(input, at, m, walked)
+            finish_message(input, at, h, walked)
         }
     }
 }
@@ -593,12 +591,11 @@ fn write_messages(
     let mut passed = 0;
     while at < recording.len() {
         let found = front_at(recording, at);
-        let FrontRead::Front(m) = found else {
+        let HeaderRead::Header(h) = found else {
             return reached.held;
         };
-        let from = m.payload;
-        let behind = m.next;
-        let h = m.header;
+        let from = at + (24 + 4 * h.words as usize);
+        let behind = at + h.length as usize;
         let kept = write_packages(
             &recording[from..behind],
             marks,

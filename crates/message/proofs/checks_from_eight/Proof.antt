@@ -1,7 +1,7 @@
 -- `message::checks_from_eight` meets its contract: a law for each `return`.
 use mathlib.Core.Path.{sym, ap, _∙_}
 use borrow.Author.Needs.{needs}
-use Rattle.message.proofs.Messages.{unfit, no-cut, told, miscounted, whole}
+use Rattle.message.proofs.Messages.{unfit, no-cut, miscounted, whole}
 use Rattle.message.specs.Answers.{toldGate, toldCount}
 use Rattle.message.proofs.checks_from_eight.Statement.{statement}
 use Rattle.message.proofs.checks_from_eight.Tie as tie
@@ -13,7 +13,7 @@ enum-known-r : tie.Need-enum-known-r
 enum-known-r c = search needs
 
 returns : tie.Need-returns
-returns c = unfit _ _ _ _ (c .before .before .before .before .before .pre) (ap toldGate (sym (c .before .r .given .1)) ∙ c .before .before .before .checks-eight-and-nine .ensures)
+returns c = unfit _ _ _ (c .before .before .before .before .before .pre) (ap toldGate (sym (c .before .r .given .1)) ∙ c .before .before .before .checks-eight-and-nine .ensures)
 
 enum-told : tie.Need-enum-told
 enum-told c = search needs
@@ -61,22 +61,19 @@ miscounts-requires : tie.Need-miscounts-requires
 miscounts-requires c κs = search needs
 
 returns-2 : tie.Need-returns-2
-returns-2 c = miscounted _ _ _ _ (c .before .before .before .before .before .before .before .before .before .before .before .before .before .before .pre) (ap toldGate (sym (c .before .before .before .before .before .before .before .before .before .before .enum-told .given .1)) ∙ c .before .before .before .before .before .before .before .before .before .before .before .before .checks-eight-and-nine .ensures) _ _ (c .before .before .before .before .before .before .before .before .before .payload-start .ensures .0) (c .before .before .before .before .before .before .before .before .wide32 .ensures .0) _ (ap toldCount (sym (c .before .before .before .before .k .given .1)) ∙ c .before .before .before .before .before .before .packages-of .ensures) (sym (c .before .miscounts .ensures) ∙ c .if1 .taken)
+returns-2 c = miscounted _ _ _ (c .before .before .before .before .before .before .before .before .before .before .before .before .before .before .before .pre) (ap toldGate (sym (c .before .before .before .before .before .before .before .before .before .before .before .enum-told .given .1)) ∙ c .before .before .before .before .before .before .before .before .before .before .before .before .before .checks-eight-and-nine .ensures) _ _ (c .before .before .before .before .before .before .before .before .before .before .payload-start .ensures .0) (c .before .before .before .before .before .before .before .before .before .wide32 .ensures .0) _ (ap toldCount (sym (c .before .before .before .before .before .k .given .1)) ∙ c .before .before .before .before .before .before .before .packages-of .ensures) (sym (c .before .miscounts .ensures) ∙ c .if1 .taken)
 
-header-of-requires : tie.Need-header-of-requires
-header-of-requires c κs = search needs
+add-t20 : tie.Need-add-t20
+add-t20 c = search needs
 
-add-t22 : tie.Need-add-t22
-add-t22 c = search needs
-
-add-t27 : tie.Need-add-t27
-add-t27 c = search needs
+add-t25 : tie.Need-add-t25
+add-t25 c = search needs
 
 returns-3 : tie.Need-returns-3
-returns-3 c = no-cut _ _ _ _ (c .before .before .before .before .before .before .before .before .before .before .before .pre) (ap toldGate (sym (c .before .before .before .before .before .before .before .enum-told .given .1)) ∙ c .before .before .before .before .before .before .before .before .before .checks-eight-and-nine .ensures) _ _ (c .before .before .before .before .before .before .payload-start .ensures .0) (c .before .before .before .before .before .wide32 .ensures .0) (ap toldCount (sym (c .before .r2 .given .1)) ∙ c .before .before .before .packages-of .ensures)
+returns-3 c = no-cut _ _ _ (c .before .before .before .before .before .before .before .before .before .before .before .pre) (ap toldGate (sym (c .before .before .before .before .before .before .before .enum-told .given .1)) ∙ c .before .before .before .before .before .before .before .before .before .checks-eight-and-nine .ensures) _ _ (c .before .before .before .before .before .before .payload-start .ensures .0) (c .before .before .before .before .before .wide32 .ensures .0) (ap toldCount (sym (c .before .r2 .given .1)) ∙ c .before .before .before .packages-of .ensures)
 
 returns-4 : tie.Need-returns-4
-returns-4 c = told _ _ _ _ _ _ (c .before .before .before .before .before .before .before .before .before .before .before .before .before .before .before .pre .version) (c .before .before .before .before .before .before .before .before .before .before .before .before .before .before .before .pre .kind) (c .header-of .ensures) (whole _ _ _ _ (c .before .before .before .before .before .before .before .before .before .before .before .before .before .before .before .pre) (ap toldGate (sym (c .before .before .before .before .before .before .before .before .before .before .before .enum-told .given .1)) ∙ c .before .before .before .before .before .before .before .before .before .before .before .before .before .checks-eight-and-nine .ensures) _ _ (c .before .before .before .before .before .before .before .before .before .before .payload-start .ensures .0) (c .before .before .before .before .before .before .before .before .before .wide32 .ensures .0) _ (ap toldCount (sym (c .before .before .before .before .before .k .given .1)) ∙ c .before .before .before .before .before .before .before .packages-of .ensures) (sym (c .before .before .miscounts .ensures) ∙ c .before .if1 .left))
+returns-4 c = whole _ _ _ (c .before .before .before .before .before .before .before .before .before .before .before .before .before .before .before .pre) (ap toldGate (sym (c .before .before .before .before .before .before .before .before .before .before .before .enum-told .given .1)) ∙ c .before .before .before .before .before .before .before .before .before .before .before .before .before .checks-eight-and-nine .ensures) _ _ (c .before .before .before .before .before .before .before .before .before .before .payload-start .ensures .0) (c .before .before .before .before .before .before .before .before .before .wide32 .ensures .0) _ (ap toldCount (sym (c .before .before .before .before .before .k .given .1)) ∙ c .before .before .before .before .before .before .before .packages-of .ensures) (sym (c .before .miscounts .ensures) ∙ c .if1 .left)
 
 pub checks-from-eight-spec : {M : Type 1} → statement M
 checks-from-eight-spec =
@@ -101,8 +98,7 @@ checks-from-eight-spec =
     part-miscounts-end
     miscounts-requires
     returns-2
-    header-of-requires
-    add-t22
-    add-t27
+    add-t20
+    add-t25
     returns-3
     returns-4)

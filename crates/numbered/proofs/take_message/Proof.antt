@@ -2,9 +2,9 @@
 use borrow.Author.Needs.{needs}
 use mathlib.Core.Path.{_≡_, sym, ap, _∙_}
 use native.Mathlib.Omega.{arith}
-use Rattle.message.specs.declared.Front.{Front}
-use Rattle.message.specs.declared.FrontRead.the-variants as F
-use Rattle.message.specs.Answers.{toldFront, frontAt}
+use Rattle.message.specs.declared.Header.{Header}
+use Rattle.message.specs.declared.HeaderRead.the-variants as header
+use Rattle.message.specs.Answers.{toldHeader, frontAt}
 use Rattle.message.proofs.Fronts.{Fronted, fronted}
 use Rattle.sheet.specs.Table.{rowsIn}
 use Rattle.numbered.proofs.Packages.{took-refused, took-walked}
@@ -18,16 +18,16 @@ use Rattle.numbered.proofs.finish_message.Reads as finish-message
 
 -- the front was read
 abbrev Read : Type 0
-Read = lts.After-h (front-at.Asked, front-at.Learnt, measure-packages.Asked, measure-packages.Learnt, finish-message.Asked, finish-message.Learnt) reads.Pre reads.Post
+Read = lts.After-found2 (front-at.Asked, front-at.Learnt, measure-packages.Asked, measure-packages.Learnt, finish-message.Asked, finish-message.Learnt) reads.Pre reads.Post
 
-abbrev front : Read → Front
-front c = c .before .before .found2 .given .0 .0
+abbrev H : Read → Header
+H c = c .found2 .given .0 .0
 
-read : (c : Read) → toldFront (F.Front (front c)) ≡ frontAt (c .before .before .before .before .before .before .before .before .before .args .input .now) (c .before .before .before .before .before .before .before .before .before .args .at)
-read c = ap toldFront (sym (c .before .before .found2 .given .1)) ∙ c .before .before .before .before .front-at .ensures
+read : (c : Read) → toldHeader (header.Header (H c)) ≡ frontAt (c .before .before .before .before .before .before .before .args .input .now) (c .before .before .before .before .before .before .before .args .at)
+read c = ap toldHeader (sym (c .found2 .given .1)) ∙ c .before .before .front-at .ensures
 
-places : (c : Read) → Fronted (c .before .before .before .before .before .before .before .before .before .args .input .now) (c .before .before .before .before .before .before .before .before .before .args .at) (front c)
-places c = fronted _ _ (front c) (read c)
+places : (c : Read) → Fronted (c .before .before .before .before .before .before .before .args .input .now) (c .before .before .before .before .before .before .before .args .at) (H c)
+places c = fronted _ _ (H c) (read c)
 
 front-at-requires : tie.Need-front-at-requires
 front-at-requires c κs = search needs
@@ -38,30 +38,48 @@ enum-known-found c = search needs
 enum-known-found-2 : tie.Need-enum-known-found-2
 enum-known-found-2 c = search needs
 
+cast-from : tie.Need-cast-from
+cast-from c = search needs
+
+mul-from : tie.Need-mul-from
+mul-from c = search needs
+
+add-from : tie.Need-add-from
+add-from c = search needs
+
+add-from-2 : tie.Need-add-from-2
+add-from-2 c = let f = places (c .before .before) in omega (arith, f .whole, f .within, f .forth)
+
+cast-next : tie.Need-cast-next
+cast-next c = search needs
+
+add-next : tie.Need-add-next
+add-next c = let f = places (c .before .before .before) in omega (arith, f .whole, f .within, f .forth)
+
 sub-measure-packages : tie.Need-sub-measure-packages
-sub-measure-packages c = places c .forth
+sub-measure-packages c = places (c .before .before .before) .forth
 
 part-measure-packages-start : tie.Need-part-measure-packages-start
-part-measure-packages-start c = places c .forth
+part-measure-packages-start c = places (c .before .before .before) .forth
 
 part-measure-packages-end : tie.Need-part-measure-packages-end
-part-measure-packages-end c = places c .within
+part-measure-packages-end c = places (c .before .before .before) .within
 
 measure-packages-requires : tie.Need-measure-packages-requires
 measure-packages-requires c κs =
-    let s = c .before .before .before .before .before .before .before .before .before .before .before .before in
-    let f = places (c .before .before .before) in
+    let s = c .before .before .before .before .before .before .before .before .before .before .before .before .before in
+    let f = places (c .before .before .before .before .before .before) in
     (omega (arith, f .long, f .within, f .behind, s .pre .0, s .pre .1), s .pre .2, s .pre .3, s .pre .4)
 
 finish-message-requires : tie.Need-finish-message-requires
 finish-message-requires c κs =
-    let f = places (c .before .before .before .before .before .before .before .before) in
+    let f = places (c .before .before .before .before .before .before .before .before .before .before .before) in
     (f .whole, f .forth, f .within, omega (arith, f .run, f .forth, f .within), omega (arith, c .before .before .before .before .measure-packages .ensures .inside, f .small))
 
 returns : tie.Need-returns
 returns c =
     let a = c .before .before .before .before .before .before .before .before .args in
-    took-refused (rowsIn (a .table .now)) (a .input .now) (a .at) (a .marks .now) _ (a .first) (c .before .found .given .0 .0) (ap toldFront (sym (c .before .found .given .1)) ∙ c .before .before .before .front-at .ensures)
+    took-refused (rowsIn (a .table .now)) (a .input .now) (a .at) (a .marks .now) _ (a .first) (c .before .found .given .0 .0) (ap toldHeader (sym (c .before .found .given .1)) ∙ c .before .before .before .front-at .ensures)
 
 same-length : tie.Need-same-length
 same-length c = search needs
@@ -71,9 +89,10 @@ same-length-2 c = search needs
 
 returns-2 : tie.Need-returns-2
 returns-2 c =
-    let a = c .before .before .before .before .before .before .before .before .before .before .before .before .before .before .before .before .before .before .args in
+    let a = c .before .before .before .before .before .before .before .before .before .before .before .before .before .before .before .before .before .before .before .args in
+    let h = c .before .before .before .before .before .before .before .before .before .before .before .before in
     let w = c .before .before .before .before .before .measure-packages in
-    took-walked (rowsIn (a .table .now)) (a .input .now) (a .at) (a .marks .now) _ (a .first) (front (c .before .before .before .before .before .before .before .before .before)) (read (c .before .before .before .before .before .before .before .before .before)) (w .result) (w .ensures) (c .finish-message .result) (c .finish-message .ensures)
+    took-walked (rowsIn (a .table .now)) (a .input .now) (a .at) (a .marks .now) _ (a .first) (H h) (read h) (w .result) (w .ensures) (c .finish-message .result) (c .finish-message .ensures)
 
 pub take-message-spec : {M : Type 1} → statement M
 take-message-spec =
@@ -82,6 +101,12 @@ take-message-spec =
     front-at-requires
     enum-known-found
     enum-known-found-2
+    cast-from
+    mul-from
+    add-from
+    add-from-2
+    cast-next
+    add-next
     sub-measure-packages
     part-measure-packages-start
     part-measure-packages-end

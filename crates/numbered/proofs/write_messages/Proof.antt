@@ -5,9 +5,9 @@ use Prim.Native.Nat.{_-_, _≤_}
 use native.Mathlib.Omega.{arith}
 use lib.ListN.{length}
 use lib.Seq.{length-sets, length-take-le}
-use Rattle.message.specs.declared.Front.{Front}
-use Rattle.message.specs.declared.FrontRead.the-variants as F
-use Rattle.message.specs.Answers.{frontAt, toldFront}
+use Rattle.message.specs.declared.Header.{Header}
+use Rattle.message.specs.declared.HeaderRead.the-variants as header
+use Rattle.message.specs.Answers.{toldHeader, frontAt}
 use Rattle.message.proofs.Fronts.{Fronted, fronted}
 use Rattle.sheet.specs.Table.{rowsIn}
 use Rattle.numbered.specs.Parts.{Marked, Roomy}
@@ -34,22 +34,22 @@ abbrev μ-loop : tie.MeasureT-loop
 
 -- a front was read
 abbrev Read : Type 0
-Read = lts.After-h (see.Asked, see.Learnt, front-at.Asked, front-at.Learnt, write-packages.Asked, write-packages.Learnt, deliver.Asked, deliver.Learnt) reads.Pre reads.Post Inv-loop μ-loop
+Read = lts.After-found (see.Asked, see.Learnt, front-at.Asked, front-at.Learnt, write-packages.Asked, write-packages.Learnt, deliver.Asked, deliver.Learnt) reads.Pre reads.Post Inv-loop μ-loop
 
-abbrev front : Read → Front
-front c = c .before .before .found .given .0 .0
+abbrev H : Read → Header
+H c = c .found .given .0 .0
 
-read : (c : Read) → toldFront (F.Front (front c)) ≡ frontAt (c .before .before .before .before .before .before .before .before .before .before .before .before .before .before .before .before .before .args .recording .now) (c .before .before .before .before .before .before .loop .at)
-read c = ap toldFront (sym (c .before .before .found .given .1)) ∙ c .before .before .before .before .front-at .ensures
+read : (c : Read) → toldHeader (header.Header (H c)) ≡ frontAt (c .before .before .before .before .before .before .before .before .before .before .before .before .before .before .before .args .recording .now) (c .before .before .before .before .loop .at)
+read c = ap toldHeader (sym (c .found .given .1)) ∙ c .before .before .front-at .ensures
 
-places : (c : Read) → Fronted (c .before .before .before .before .before .before .before .before .before .before .before .before .before .before .before .before .before .args .recording .now) (c .before .before .before .before .before .before .loop .at) (front c)
-places c = fronted (c .before .before .before .before .before .before .before .before .before .before .before .before .before .before .before .before .before .args .recording .now) (c .before .before .before .before .before .before .loop .at) (front c) (read c)
+places : (c : Read) → Fronted (c .before .before .before .before .before .before .before .before .before .before .before .before .before .before .before .args .recording .now) (c .before .before .before .before .loop .at) (H c)
+places c = fronted (c .before .before .before .before .before .before .before .before .before .before .before .before .before .before .before .args .recording .now) (c .before .before .before .before .loop .at) (H c) (read c)
 
 slice-reshare-prefix-see : tie.Need-slice-reshare-prefix-see Inv-loop μ-loop
 slice-reshare-prefix-see c = c .before .before .before .before .before .before .pre .1 .ids-held
 
 slice-aggregate-see : tie.Need-slice-aggregate-see Inv-loop μ-loop
-slice-aggregate-see c = sym (length-take-le (c .before .before .before .before .before .before .before .args .held) (c .before .before .before .before .before .before .before .args .ids .now) (c .before .before .before .before .before .before .before .pre .1 .ids-held))
+slice-aggregate-see c = let s = c .before .before .before .before .before .before .before in sym (length-take-le (s .args .held) (s .args .ids .now) (s .pre .1 .ids-held))
 
 slice-aggregate-see-2 : tie.Need-slice-aggregate-see-2 Inv-loop μ-loop
 slice-aggregate-see-2 c = search needs
@@ -91,26 +91,44 @@ returns : tie.Need-returns Inv-loop μ-loop
 returns c =
     let v = c .before .before .before .before .loop in
     let a = c .before .before .before .before .before .before .before .before .before .before .before .before .before .before .before .args in
-    absurd (write-refused (rowsIn (a .table .now)) (a .recording .now) (a .ids .now) (a .next .now) (a .held) (a .out .now) (v .inv .1) (v .out) (v .ids) (v .next) (v .seen) (v .reached) (v .at) (v .passed) (v .inv .3) (v .inv .0) (search needs) (c .enum-told .given .0 .0) (ap toldFront (sym (c .enum-told .given .1)) ∙ c .before .before .front-at .ensures))
+    absurd (write-refused (rowsIn (a .table .now)) (a .recording .now) (a .ids .now) (a .next .now) (a .held) (a .out .now) (v .inv .1) (v .out) (v .ids) (v .next) (v .seen) (v .reached) (v .at) (v .passed) (v .inv .3) (v .inv .0) (search needs) (c .enum-told .given .0 .0) (ap toldHeader (sym (c .enum-told .given .1)) ∙ c .before .before .front-at .ensures))
+
+cast-from : tie.Need-cast-from Inv-loop μ-loop
+cast-from c = search needs
+
+mul-from : tie.Need-mul-from Inv-loop μ-loop
+mul-from c = search needs
+
+add-from : tie.Need-add-from Inv-loop μ-loop
+add-from c = search needs
+
+add-from-2 : tie.Need-add-from-2 Inv-loop μ-loop
+add-from-2 c = let f = places (c .before .before) in omega (arith, f .whole, f .within, f .forth)
+
+cast-behind : tie.Need-cast-behind Inv-loop μ-loop
+cast-behind c = search needs
+
+add-behind : tie.Need-add-behind Inv-loop μ-loop
+add-behind c = let f = places (c .before .before .before) in omega (arith, f .whole, f .within, f .forth)
 
 sub-write-packages : tie.Need-sub-write-packages Inv-loop μ-loop
-sub-write-packages c = places c .forth
+sub-write-packages c = places (c .before .before .before) .forth
 
 part-write-packages-start : tie.Need-part-write-packages-start Inv-loop μ-loop
-part-write-packages-start c = places c .forth
+part-write-packages-start c = places (c .before .before .before) .forth
 
 part-write-packages-end : tie.Need-part-write-packages-end Inv-loop μ-loop
-part-write-packages-end c = places c .within
+part-write-packages-end c = places (c .before .before .before) .within
 
 add-write-packages : tie.Need-add-write-packages Inv-loop μ-loop
 add-write-packages c =
-    let i = c .before .before .before .before .before .before .before .before .before .loop .inv in
+    let i = c .before .before .before .before .before .before .before .before .before .before .loop .inv in
     omega (arith, i .3 .short, i .3 .inside, i .0)
 
 write-packages-requires : tie.Need-write-packages-requires Inv-loop μ-loop
 write-packages-requires c κs =
-    let i = c .before .before .before .before .before .before .before .before .before .loop .inv in
-    (places (c .before .before .before) .small, omega (arith, i .3 .few, i .3 .inside, i .0), omega (arith, i .3 .short, i .3 .inside, i .0))
+    let i = c .before .before .before .before .before .before .before .before .before .before .loop .inv in
+    (places (c .before .before .before .before .before .before) .small, omega (arith, i .3 .few, i .3 .inside, i .0), omega (arith, i .3 .short, i .3 .inside, i .0))
 
 slice-aggregate-deliver : tie.Need-slice-aggregate-deliver Inv-loop μ-loop
 slice-aggregate-deliver c = search needs
@@ -118,35 +136,35 @@ slice-aggregate-deliver c = search needs
 deliver-requires : tie.Need-deliver-requires Inv-loop μ-loop
 deliver-requires c κs =
     let w = c .before .before .before .before .before .before .write-packages in
-    let h = c .before .before .before .before .before .before .before .before .before .before in
-    let v = c .before .before .before .before .before .before .before .before .before .before .before .before .before .before .before .before .loop in
-    let a = c .before .before .before .before .before .before .before .before .before .before .before .before .before .before .before .before .before .before .before .before .before .before .before .before .before .before .before .args in (
-      fits (rowsIn (a .table .now)) (a .recording .now) (a .ids .now) (a .next .now) (a .held) (a .out .now) (v .inv .1) (v .out) (v .ids) (v .next) (v .seen) (v .reached) (v .at) (v .passed) (v .inv .3) (v .inv .0) (search needs) (a .marks .now) (v .inv .2) (front h) (read h) _ (w .result) (w .ensures),
+    let h = c .before .before .before .before .before .before .before .before .before .before .before .before .before in
+    let v = c .before .before .before .before .before .before .before .before .before .before .before .before .before .before .before .before .before .loop in
+    let a = c .before .before .before .before .before .before .before .before .before .before .before .before .before .before .before .before .before .before .before .before .before .before .before .before .before .before .before .before .args in (
+      fits (rowsIn (a .table .now)) (a .recording .now) (a .ids .now) (a .next .now) (a .held) (a .out .now) (v .inv .1) (v .out) (v .ids) (v .next) (v .seen) (v .reached) (v .at) (v .passed) (v .inv .3) (v .inv .0) (search needs) (a .marks .now) (v .inv .2) (H h) (read h) _ (w .result) (w .ensures),
       search needs,
-      ready (rowsIn (a .table .now)) (a .recording .now) (a .ids .now) (a .next .now) (a .held) (a .out .now) (v .inv .1) (v .out) (v .ids) (v .next) (v .seen) (v .reached) (v .at) (v .passed) (v .inv .3) (v .inv .0) (search needs) (a .marks .now) (v .inv .2) (front h) (read h) _ (w .result) (w .ensures),
+      ready (rowsIn (a .table .now)) (a .recording .now) (a .ids .now) (a .next .now) (a .held) (a .out .now) (v .inv .1) (v .out) (v .ids) (v .next) (v .seen) (v .reached) (v .at) (v .passed) (v .inv .3) (v .inv .0) (search needs) (a .marks .now) (v .inv .2) (H h) (read h) _ (w .result) (w .ensures),
     )
 
 add-passed : tie.Need-add-passed Inv-loop μ-loop
 add-passed c =
     let w = c .before .before .before .before .before .before .before .before .before .before .before .before .before .before .before .write-packages in
-    let h = c .before .before .before .before .before .before .before .before .before .before .before .before .before .before .before .before .before .before .before in
-    let v = c .before .before .before .before .before .before .before .before .before .before .before .before .before .before .before .before .before .before .before .before .before .before .before .before .before .loop in
-    let a = c .before .before .before .before .before .before .before .before .before .before .before .before .before .before .before .before .before .before .before .before .before .before .before .before .before .before .before .before .before .before .before .before .before .before .before .before .args in
-    omega (arith, v .inv .0, places h .within, few′ (rowsIn (a .table .now)) (a .recording .now) (a .ids .now) (a .next .now) (a .held) (a .out .now) (v .inv .1) (v .out) (v .ids) (v .next) (v .seen) (v .reached) (v .at) (v .passed) (v .inv .3) (v .inv .0) (search needs) (a .marks .now) (v .inv .2) (front h) (read h) _ (w .result) (w .ensures))
+    let h = c .before .before .before .before .before .before .before .before .before .before .before .before .before .before .before .before .before .before .before .before .before .before in
+    let v = c .before .before .before .before .before .before .before .before .before .before .before .before .before .before .before .before .before .before .before .before .before .before .before .before .before .before .loop in
+    let a = c .before .before .before .before .before .before .before .before .before .before .before .before .before .before .before .before .before .before .before .before .before .before .before .before .before .before .before .before .before .before .before .before .before .before .before .before .before .args in
+    omega (arith, v .inv .0, places h .within, few′ (rowsIn (a .table .now)) (a .recording .now) (a .ids .now) (a .next .now) (a .held) (a .out .now) (v .inv .1) (v .out) (v .ids) (v .next) (v .seen) (v .reached) (v .at) (v .passed) (v .inv .3) (v .inv .0) (search needs) (a .marks .now) (v .inv .2) (H h) (read h) _ (w .result) (w .ensures))
 
 loop-less : tie.Need-loop-less Inv-loop μ-loop
 loop-less c =
-    let s = places (c .before .before .before .before .before .before .before .before .before .before .before .before .before .before .before .before .before .before .before) in
+    let s = places (c .before .before .before .before .before .before .before .before .before .before .before .before .before .before .before .before .before .before .before .before .before .before) in
     omega (arith, s .on, s .within)
 
 loop-again : tie.Need-loop-again Inv-loop μ-loop
 loop-again c =
     let d = c .before .before .before .before .before .before .before .before .deliver in
     let w = c .before .before .before .before .before .before .before .before .before .before .before .before .before .before .before .write-packages in
-    let h = c .before .before .before .before .before .before .before .before .before .before .before .before .before .before .before .before .before .before .before in
-    let v = c .before .before .before .before .before .before .before .before .before .before .before .before .before .before .before .before .before .before .before .before .before .before .before .before .before .loop in
-    let a = c .before .before .before .before .before .before .before .before .before .before .before .before .before .before .before .before .before .before .before .before .before .before .before .before .before .before .before .before .before .before .before .before .before .before .before .before .args in
-    (v .inv .0, v .inv .1, v .inv .2, write-next (rowsIn (a .table .now)) (a .recording .now) (a .ids .now) (a .next .now) (a .held) (a .out .now) (v .inv .1) (v .out) (v .ids) (v .next) (v .seen) (v .reached) (v .at) (v .passed) (v .inv .3) (v .inv .0) (search needs) (a .marks .now) (v .inv .2) (front h) (read h) _ (w .result) (w .ensures) _ _ _ _ _ (d .ensures))
+    let h = c .before .before .before .before .before .before .before .before .before .before .before .before .before .before .before .before .before .before .before .before .before .before in
+    let v = c .before .before .before .before .before .before .before .before .before .before .before .before .before .before .before .before .before .before .before .before .before .before .before .before .before .before .loop in
+    let a = c .before .before .before .before .before .before .before .before .before .before .before .before .before .before .before .before .before .before .before .before .before .before .before .before .before .before .before .before .before .before .before .before .before .before .before .before .before .args in
+    (v .inv .0, v .inv .1, v .inv .2, write-next (rowsIn (a .table .now)) (a .recording .now) (a .ids .now) (a .next .now) (a .held) (a .out .now) (v .inv .1) (v .out) (v .ids) (v .next) (v .seen) (v .reached) (v .at) (v .passed) (v .inv .3) (v .inv .0) (search needs) (a .marks .now) (v .inv .2) (H h) (read h) _ (w .result) (w .ensures) _ _ _ _ _ (d .ensures))
 
 same-length-4 : tie.Need-same-length-4 Inv-loop μ-loop
 same-length-4 c =
@@ -187,6 +205,12 @@ write-messages-spec =
     same-length-2
     same-length-3
     returns
+    cast-from
+    mul-from
+    add-from
+    add-from-2
+    cast-behind
+    add-behind
     sub-write-packages
     part-write-packages-start
     part-write-packages-end
