@@ -7,7 +7,7 @@ use lib.Dec.{eqb}
 use lib.ListN.{length, take, drop}
 use lib.Seq.{sets}
 use Rattle.rules.specs.Outcome.{Outcome, good, bad, PACKAGE}
-use Rattle.rules.specs.Bytes.{at, half, put32, pad, part, join}
+use Rattle.rules.specs.Bytes.{half, put32, pad, part, join}
 use Rattle.rules.specs.Packages.{cut, packageOf, pieceOf}
 use Rattle.rules.specs.Message.{recordBits}
 use Rattle.rules.specs.Writer.{write, Draft, drafted}

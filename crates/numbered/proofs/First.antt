@@ -6,22 +6,21 @@ use mathlib.Core.List.{List, [], _∷_, map}
 use native.Mathlib.Omega.{arith}
 use borrow.Author.Tests.{ltb-false, le-ltb}
 use lib.Dec.{ltb}
-use lib.ListN.{length, take}
+use lib.ListN.{length}
 use lib.Seq.{sets}
-use Rattle.rules.specs.Outcome.{Outcome, good, bad, refuse, _>>_, _>>=_, _∷>_, LARGE, ROOM}
+use Rattle.rules.specs.Outcome.{Outcome, good, bad, _>>_, _>>=_, _∷>_, LARGE, ROOM}
 use Rattle.refusal.specs.Numbers.{IDS}
 use Rattle.rules.specs.Bytes.{join}
 use Rattle.rules.specs.Items.{items, All, all-nil, count}
-use Rattle.rules.specs.Message.{notLarge, Message, message, recording}
-use Rattle.rules.specs.Packages.{Package}
+use Rattle.rules.specs.Message.{Message, message, recording}
 use Rattle.rules.specs.Buffer.{fitted}
 use Rattle.rules.specs.Writer.{write}
 use Rattle.rules.specs.Sheet.{Row, sheet}
 use Rattle.rules.specs.Copy as rules
 use Rattle.rules.specs.Copy.{Entry, released, copyMessage, copyMessages, copyBytes, packagesIn, releasedOf, roomFor, filled, answered, measurement, copy}
-use Rattle.rules.proofs.Outcomes.{step, stepped, stop, pass, halt, passed, fronted, after, stop-before, refused-pass, good≢bad, good-inj}
+use Rattle.rules.proofs.Outcomes.{step, stop, pass, halt, after, stop-before, good≢bad}
 use Rattle.rules.proofs.Released.{count-le}
-use Rattle.numbered.specs.Numbering.{Running, nextNumber, countedOn, numbersAfter, numberedMessages, numberedBytes, beside, State, runningIn}
+use Rattle.numbered.specs.Numbering.{Running, nextNumber, countedOn, numberedMessages, numberedBytes, beside, State, runningIn}
 use Rattle.numbered.specs.Quota.{badIds, badState, someTwice, Taken, takenAt, firstItems, takenFrom, messageOf, idsFit, delivering, measuring, Report, reported, numberedCopy, settled, copyOf, asCopy}
 use Rattle.numbered.proofs.Numbers.{Low, low-counted, next-counted, count-cons}
 use Rattle.numbered.proofs.Ids.{ids-number, ids-good, after-length}

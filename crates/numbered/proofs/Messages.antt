@@ -13,7 +13,7 @@ use Rattle.rules.specs.Copy.{Entry, grantedPackages, withEntryOf, released}
 use Rattle.rules.specs.Message.{head, payloadStart, payload, Message, recordOf, message}
 use Rattle.rules.proofs.Outcomes.{step, stepped, fronted, front-of, good-inj}
 use Rattle.rules.proofs.Walk.{items-next}
-use Rattle.rules.proofs.Alone.{Own, own}
+use Rattle.rules.proofs.Alone.{own}
 use Rattle.rules.proofs.Cut as Cut
 use Rattle.rules.proofs.Passed.{passes}
 use Rattle.numbered.proofs.States.{length-map}

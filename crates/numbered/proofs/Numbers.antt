@@ -3,17 +3,13 @@ use Prim.Native.Nat.{ℕ, suc, _+_, _-_, _%_, _^_, _<_}
 use mathlib.Core.Path.{_≡_, refl, ap, sym, _∙_}
 use mathlib.Core.Bool.{Bool, true, false}
 use mathlib.Core.List.{List, [], _∷_, _++_, map}
-use native.Mathlib.Nat.{zero-add}
 use native.Mathlib.Omega.{arith}
-use borrow.Author.Tests.{eqb-true, eqb-false, eq-eqb, ne-eqb}
+use borrow.Author.Tests.{eqb-true, eqb-false}
 use lib.Dec.{eqb}
-use lib.ListN.{length}
-use Rattle.rules.specs.Bytes.{join}
 use Rattle.rules.specs.Items.{All, all-nil, all-cons, count}
 use Rattle.rules.specs.Message.{Message}
-use Rattle.rules.specs.Writer.{write}
 use Rattle.rules.specs.Valid.{Valid}
-use Rattle.rules.specs.Copy.{Entry, copyMessage, copyMessages, copyBytes}
+use Rattle.rules.specs.Copy.{Entry, copyMessage}
 use Rattle.rules.proofs.Released.{ValidEntry, valid-copyMessage}
 use Rattle.rules.proofs.Growing.{join-append, map-append}
 use Rattle.numbered.proofs.Seeking.{count-same, count-other}

@@ -1,21 +1,19 @@
 -- Counting the ids that are not known: what one message does, and what the loop keeps.
-use Prim.Native.Nat.{ℕ, zero, suc, _+_, _-_, _≤_, _<_}
+use Prim.Native.Nat.{ℕ, _+_, _-_, _≤_, _<_}
 use mathlib.Core.Path.{_≡_, refl, sym, ap, subst, _∙_}
 use mathlib.Core.Logic.{⊎-elim}
 use mathlib.Core.List.{List, [], _∷_, _++_, map, append-nil, append-assoc}
-use native.Mathlib.Nat.{add-zero}
 use native.Mathlib.Numerals.{add-one}
 use native.Mathlib.Omega.{arith}
 use borrow.Author.Tests.{le-ltb, lt-ltb}
 use lib.ListN.{length, take, set, length-append}
 use lib.Seq.{length-take-le, take-suc-set}
-use Rattle.rules.specs.Outcome.{Outcome, good, bad}
+use Rattle.rules.specs.Outcome.{good, bad}
 use Rattle.refusal.specs.Numbers.{IDS}
 use Rattle.rules.specs.Items.{count}
 use Rattle.rules.specs.Message as messages
 use Rattle.rules.specs.Sheet as rows
-use Rattle.rules.specs.Packages as rules
-use Rattle.rules.specs.Copy.{Entry, withEntryOf, released}
+use Rattle.rules.specs.Copy.{Entry, released}
 use Rattle.rules.proofs.Outcomes.{pass, halt}
 use Rattle.rules.proofs.Growing.{map-append, released-append}
 use Rattle.numbered.specs.declared.Seats.{Seats}

@@ -7,10 +7,10 @@ use mathlib.Core.List.{List, [], _∷_, _++_}
 use native.Mathlib.Nat.{zero-add}
 use native.Mathlib.Numerals.{add-one}
 use native.Mathlib.Omega.{arith}
-use lib.Dec.{eqb, ltb}
-use lib.ListN.{length, getD, take, drop, set, replicate, length-append, take-append-drop}
-use lib.Seq.{take-suc, take-suc-set, take-all, getD-set-same, getD-set-other, getD-take, getD-drop, length-take-le}
-use borrow.Author.Tests.{eqb-true, eqb-false, ltb-true, ltb-false}
+use lib.Dec.{eqb}
+use lib.ListN.{length, getD, take, drop, take-append-drop}
+use lib.Seq.{take-suc, take-all}
+use borrow.Author.Tests.{eqb-true, eqb-false}
 use Rattle.rules.specs.Items.{count}
 use Rattle.numbered.specs.Parts.{Place}
 

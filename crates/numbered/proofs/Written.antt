@@ -15,7 +15,7 @@ use Rattle.rules.specs.Message as messages
 use Rattle.rules.specs.Message.{Head, head, payloadStart, everyCheck, message}
 use Rattle.rules.specs.Sheet as rows
 use Rattle.rules.specs.Copy.{Entry, withEntryOf, released}
-use Rattle.rules.proofs.Outcomes.{stop, passed, stepped, good-inj, good≢bad}
+use Rattle.rules.proofs.Outcomes.{stop, passed, good-inj, good≢bad}
 use Rattle.rules.proofs.Growing.{released-append}
 use Rattle.rules.proofs.Loops.{Doing, doing-start, doing-end, doing-bad, sets-sets, _++>_}
 use Rattle.refusal.specs.declared.Refusal.{Refusal}

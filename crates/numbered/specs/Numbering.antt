@@ -1,5 +1,5 @@
 -- Document 02, A10: running sequence numbers per message id, modulo 2^32, and the copy numbered on from them.
-use Prim.Native.Nat.{ℕ, zero, _+_, _%_, _^_}
+use Prim.Native.Nat.{ℕ, _+_, _%_, _^_}
 use mathlib.Core.Bool.{true, false}
 use mathlib.Core.List.{List, [], _∷_, map}
 use lib.Dec.{eqb}

@@ -4,12 +4,10 @@ use mathlib.Core.Path.{_≡_, refl, sym, ap, subst, _∙_}
 use mathlib.Core.Bool.{Bool, true, false}
 use mathlib.Core.List.{List, [], _∷_, _++_, map, append-nil, append-assoc}
 use native.Mathlib.Omega.{arith}
-use Rattle.rules.specs.Outcome.{good}
-use Rattle.rules.specs.Items.{count}
 use Rattle.rules.specs.Packages.{Package}
 use Rattle.rules.specs.Message.{Message}
 use Rattle.rules.specs.Sheet.{Row}
-use Rattle.rules.specs.Copy.{granted, grantedPackages, Entry, listedBits, withEntryOf, released, copyMessage, copyMessages}
+use Rattle.rules.specs.Copy.{granted, grantedPackages, listedBits, withEntryOf, released, copyMessage, copyMessages}
 use Rattle.purge.specs.Purge.{keptPackages, losesLast, withPackages, keptRecord, keptRecords}
 use Rattle.purge.specs.Parted.{InMessage, inMessage, packagesIn, Parted, ended, first, second}
 

@@ -1,5 +1,5 @@
 -- What the parts of the purge come to. Each works in the buffer itself: behind what is kept so far lies a gap, and behind the gap what is not read yet.
-use Prim.Native.Nat.{ℕ, zero, _+_, _-_, _/_, _≤_}
+use Prim.Native.Nat.{ℕ, zero, _+_, _-_, _≤_}
 use mathlib.Core.Path.{_≡_}
 use mathlib.Core.Bool.{Bool, true, false, _&&_}
 use mathlib.Core.List.{List, [], _∷_, _++_, map}

@@ -2,7 +2,7 @@
 use Prim.Native.Nat.{ℕ, _<_}
 use mathlib.Core.Path.{_≡_}
 use mathlib.Core.List.{List, [], _∷_, _++_}
-use lib.ListN.{length, take, replicate}
+use lib.ListN.{length, replicate}
 use Rattle.rules.specs.Outcome.{SHORT, ROW, LARGE, COUNT}
 use Rattle.rules.specs.Message.{mostBytes}
 use Rattle.rules.specs.Buffer.{Written}

@@ -1,17 +1,15 @@
 -- `numbered::again` meets its contract: in the loop the id does not stand between i and k.
 use borrow.Author.Needs.{needs}
 use mathlib.Core.Path.{_≡_, refl, sym, ap, _∙_}
-use Prim.Native.Nat.{ℕ, _+_, _-_, _≤_, _<_}
+use Prim.Native.Nat.{_+_, _-_, _≤_}
 use native.Mathlib.Omega.{arith}
-use borrow.Author.Tests.{lt-ltb, le-ltb}
+use borrow.Author.Tests.{lt-ltb}
 use lib.Dec.{ltb}
 use lib.ListN.{length, drop}
 use Rattle.rules.specs.Items.{count}
 use Rattle.numbered.proofs.Twice.{again-end, again-next, again-hit}
 use Rattle.numbered.proofs.again.Statement.{statement}
 use Rattle.numbered.proofs.again.Tie as tie
-use Rattle.numbered.proofs.again.Reads as reads
-use Rattle.numbered.proofs.again.Lts as lts
 
 abbrev Inv-loop : tie.InvT-loop
 Inv-loop ids i id k₀ k = (k ≤ length ids) × (count id (drop (i + 1) ids) ≡ count id (drop k ids))

@@ -1,5 +1,5 @@
 -- `numbered::bad_ids` meets its contract.
-use mathlib.Core.Path.{_≡_, sym, ap, _∙_}
+use mathlib.Core.Path.{sym, ap, _∙_}
 use mathlib.Core.Bool.{Bool}
 use lib.Seq.{length-take-le}
 use native.Mathlib.Omega.{arith}

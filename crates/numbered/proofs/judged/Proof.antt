@@ -1,6 +1,5 @@
 -- `numbered::judged` meets its contract.
 use mathlib.Core.Path.{sym, ap}
-use borrow.Author.Needs.{needs}
 use borrow.Author.Tests.{lt-ltb, le-ltb}
 use Rattle.numbered.specs.Parts.{judgedBy}
 use Rattle.numbered.proofs.judged.Statement.{statement}

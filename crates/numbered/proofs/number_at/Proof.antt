@@ -1,13 +1,10 @@
 -- `numbered::number_at` meets its contract.
 use mathlib.Core.Path.{sym, ap}
-use mathlib.Core.Bool.{Bool}
 use borrow.Author.Needs.{needs}
 use borrow.Author.Tests.{eq-eqb, ne-eqb}
 use Rattle.numbered.specs.Parts.{numberFor}
 use Rattle.numbered.proofs.number_at.Statement.{statement}
 use Rattle.numbered.proofs.number_at.Tie as tie
-use Rattle.numbered.proofs.number_at.Reads as reads
-use Rattle.numbered.proofs.number_at.Lts as lts
 
 returns : tie.Need-returns
 returns c =

@@ -1,8 +1,8 @@
 -- `numbered::seat` meets its contract: nothing is counted, or the id is known or fresh already, or it is new.
-use mathlib.Core.Path.{_≡_, sym, ap, _∙_}
+use mathlib.Core.Path.{sym, ap, _∙_}
 use mathlib.Core.Logic.{⊎-elim}
 use native.Mathlib.Omega.{arith}
-use lib.ListN.{length, take, length-set}
+use lib.ListN.{length, length-set}
 use lib.Seq.{length-take-le}
 use borrow.Author.Needs.{needs}
 use Rattle.numbered.proofs.Seating.{seated-none, seated-idle, seated-full, seated-known, seated-fresh, seated-new}

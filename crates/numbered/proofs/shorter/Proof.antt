@@ -1,5 +1,4 @@
 -- `numbered::shorter` meets its contract.
-use borrow.Author.Needs.{needs}
 use Rattle.numbered.proofs.Whole.{shorter-first, shorter-second}
 use Rattle.numbered.proofs.shorter.Statement.{statement}
 use Rattle.numbered.proofs.shorter.Tie as tie

@@ -1,15 +1,13 @@
 -- `numbered::some_twice` meets its contract: no id before i stands behind itself.
 use borrow.Author.Needs.{needs}
-use mathlib.Core.Path.{_≡_, refl, sym, ap, _∙_}
-use Prim.Native.Nat.{ℕ, _+_, _-_, _≤_, _<_}
+use mathlib.Core.Path.{_≡_, refl, sym, _∙_}
+use Prim.Native.Nat.{_-_, _≤_}
 use native.Mathlib.Omega.{arith}
 use lib.ListN.{length, drop}
 use Rattle.numbered.specs.Quota.{someTwice}
 use Rattle.numbered.proofs.Twice.{twice-end, twice-next, twice-hit}
 use Rattle.numbered.proofs.some_twice.Statement.{statement}
 use Rattle.numbered.proofs.some_twice.Tie as tie
-use Rattle.numbered.proofs.some_twice.Reads as reads
-use Rattle.numbered.proofs.some_twice.Lts as lts
 use Rattle.numbered.proofs.again.Reads as again
 
 abbrev Inv-loop : tie.InvT-loop
