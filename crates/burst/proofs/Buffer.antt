@@ -2,12 +2,13 @@
 use Prim.Native.Nat.{ℕ, zero, suc, _+_, _-_, _*_, _/_, _%_, _<_, _≤_}
 use mathlib.Core.Path.{_≡_, refl, sym, ap, _∙_}
 use mathlib.Core.List.{List, _++_, append-nil, append-assoc}
+use native.Mathlib.Nat.{zero-add}
 use native.Mathlib.Omega.{arith}
-use lib.ListN.{length, getD, set, take, drop, length-append, length-drop, drop-of-length-le, take-append-drop}
+use lib.ListN.{length, getD, set, take, drop, length-set, length-append, length-drop, drop-of-length-le, take-append-drop}
 use lib.Seq.{take-all, length-take-le, take-suc-set, drop-set-lt, drop-cons, append-snoc, take-at, drop-at}
 use borrow.Rule.Slice.PartMut.{putMid}
 use Rattle.rules.specs.Burst.{_xor_, sequenceByte, sequenceBytes, randomized}
-use Rattle.rules.proofs.Sequence.{randomized-length, randomized-append, randomized-periods}
+use Rattle.rules.proofs.Sequence.{bytes-at, randomized-length, randomized-append, randomized-periods}
 
 -- s with what is left of it, its bytes from k on, randomized from byte j of the sequence on
 abbrev pub left : ℕ → ℕ → List ℕ → List ℕ
@@ -64,3 +65,32 @@ module _ (n : ℕ) (t : List ℕ) (e : t ≡ sequenceBytes 0 n) where
 
   pub lent : (m : ℕ) → m ≤ n → (m ≤ length t) × (t ≡ sequenceBytes 0 (length t))
   lent m h = (rw table-long h, e ∙ ap (sequenceBytes 0) (sym table-long))
+
+-- three bytes or fewer, one by one
+module _ (t : List ℕ) (e : t ≡ sequenceBytes 0 255) where
+  -- s with byte k randomized by the table
+  abbrev pub with : List ℕ → ℕ → List ℕ
+  with s k = set s k (getD s k 0 xor getD t k 0)
+
+  byte-less : (s : List ℕ) (k : ℕ) → k < 255 → k < length s → left (suc k) (suc k) (with s k) ≡ left k k s
+  byte-less s k l h = rw (e, bytes-at 255 0 k l, zero-add) (one-less k k s h)
+
+  module _ (s : List ℕ) where
+    pub few-none : length s < 1 → s ≡ randomized 0 s
+    few-none h = sym (none-left 0 0 s (omega arith))
+
+    pub few-one : length s ≡ 1 → with s 0 ≡ randomized 0 s
+    few-one h = sym (none-left 1 1 (with s 0) (rw length-set (omega arith))) ∙ byte-less s 0 (omega arith) (omega arith)
+
+    pub few-two : length s ≡ 2 → with (with s 0) 1 ≡ randomized 0 s
+    few-two h =
+        sym (none-left 2 2 (with (with s 0) 1) (rw (length-set, length-set) (omega arith)))
+        ∙ byte-less (with s 0) 1 (omega arith) (rw length-set (omega arith))
+        ∙ byte-less s 0 (omega arith) (omega arith)
+
+    pub few-three : length s ≡ 3 → with (with (with s 0) 1) 2 ≡ randomized 0 s
+    few-three h =
+        sym (none-left 3 3 (with (with (with s 0) 1) 2) (rw (length-set, length-set, length-set) (omega arith)))
+        ∙ byte-less (with (with s 0) 1) 2 (omega arith) (rw (length-set, length-set) (omega arith))
+        ∙ byte-less (with s 0) 1 (omega arith) (rw length-set (omega arith))
+        ∙ byte-less s 0 (omega arith) (omega arith)

@@ -316,12 +316,36 @@ fn first_sixteen(table: &[u8; 255]) -> [u8; 16]
     short
 }
 
+// Randomizes three bytes or fewer, as one codeblock leaves them behind its whole periods: with no loop, the compiler knows their places and stores no table.
+fn randomize_few(part: &mut [u8], table: &[u8; 255])
+    requires { ⌜ length (now part) ≤ 3 ⌝ }
+    requires { ⌜ now table ≡ sequenceBytes 0 255 ⌝ }
+    ensures { λ _. ⌜ now (part .exit) ≡ randomized 0 (now (part .entry)) ⌝ }
+{
+    if part.len() < 1 {
+        return;
+    }
+    part[0] = part[0] ^ table[0];
+    if part.len() < 2 {
+        return;
+    }
+    part[1] = part[1] ^ table[1];
+    if part.len() < 3 {
+        return;
+    }
+    part[2] = part[2] ^ table[2];
+}
+
 // Randomizes at most one period. Here the loop alone knows the places, so a copy of the table is stored, a short one where that does; were the table lent itself, each call would store it.
 fn randomize_rest(part: &mut [u8], table: &[u8; 255])
     requires { ⌜ length (now part) ≤ 255 ⌝ }
     requires { ⌜ now table ≡ sequenceBytes 0 255 ⌝ }
     ensures { λ _. ⌜ now (part .exit) ≡ randomized 0 (now (part .entry)) ⌝ }
 {
+    if part.len() <= 3 {
+        randomize_few(part, table);
+        return;
+    }
     if part.len() <= 16 {
         let short = first_sixteen(table);
         randomize_part(part, &short, 0);
