@@ -15,7 +15,7 @@ abbrev pub left : ℕ → ℕ → List ℕ → List ℕ
 left j k s = take k s ++ randomized j (drop k s)
 
 -- what is still to be randomized, one byte fewer
-pub one-less : (j k : ℕ) (s : List ℕ) → k < length s → left (suc j) (suc k) (set s k (getD s k 0 xor sequenceByte j)) ≡ left j k s
+one-less : (j k : ℕ) (s : List ℕ) → k < length s → left (suc j) (suc k) (set s k (getD s k 0 xor sequenceByte j)) ≡ left j k s
 unfolding randomized
 one-less j k s h =
     let v = getD s k 0 xor sequenceByte j in
@@ -66,31 +66,35 @@ module _ (n : ℕ) (t : List ℕ) (e : t ≡ sequenceBytes 0 n) where
   pub lent : (m : ℕ) → m ≤ n → (m ≤ length t) × (t ≡ sequenceBytes 0 (length t))
   lent m h = (rw table-long h, e ∙ ap (sequenceBytes 0) (sym table-long))
 
+-- what is still to be randomized, one byte fewer: byte k, by entry j of the table
+pub byte-less : (n : ℕ) (t s : List ℕ) (j k : ℕ) → t ≡ sequenceBytes 0 n → j < n → k < length s → left (suc j) (suc k) (set s k (getD s k 0 xor getD t j 0)) ≡ left j k s
+byte-less n t s j k e l h = rw (e, bytes-at n 0 j l, zero-add) (one-less j k s h)
+
 -- three bytes or fewer, one by one
 module _ (t : List ℕ) (e : t ≡ sequenceBytes 0 255) where
   -- s with byte k randomized by the table
-  abbrev pub with : List ℕ → ℕ → List ℕ
+  abbrev with : List ℕ → ℕ → List ℕ
   with s k = set s k (getD s k 0 xor getD t k 0)
 
-  byte-less : (s : List ℕ) (k : ℕ) → k < 255 → k < length s → left (suc k) (suc k) (with s k) ≡ left k k s
-  byte-less s k l h = rw (e, bytes-at 255 0 k l, zero-add) (one-less k k s h)
+  on : (s : List ℕ) (k : ℕ) → k < 255 → k < length s → left (suc k) (suc k) (with s k) ≡ left k k s
+  on s k l h = byte-less 255 t s k k e l h
 
   module _ (s : List ℕ) where
     pub few-none : length s < 1 → s ≡ randomized 0 s
     few-none h = sym (none-left 0 0 s (omega arith))
 
     pub few-one : length s ≡ 1 → with s 0 ≡ randomized 0 s
-    few-one h = sym (none-left 1 1 (with s 0) (rw length-set (omega arith))) ∙ byte-less s 0 (omega arith) (omega arith)
+    few-one h = sym (none-left 1 1 (with s 0) (rw length-set (omega arith))) ∙ on s 0 (omega arith) (omega arith)
 
     pub few-two : length s ≡ 2 → with (with s 0) 1 ≡ randomized 0 s
     few-two h =
         sym (none-left 2 2 (with (with s 0) 1) (rw (length-set, length-set) (omega arith)))
-        ∙ byte-less (with s 0) 1 (omega arith) (rw length-set (omega arith))
-        ∙ byte-less s 0 (omega arith) (omega arith)
+        ∙ on (with s 0) 1 (omega arith) (rw length-set (omega arith))
+        ∙ on s 0 (omega arith) (omega arith)
 
     pub few-three : length s ≡ 3 → with (with (with s 0) 1) 2 ≡ randomized 0 s
     few-three h =
         sym (none-left 3 3 (with (with (with s 0) 1) 2) (rw (length-set, length-set, length-set) (omega arith)))
-        ∙ byte-less (with (with s 0) 1) 2 (omega arith) (rw (length-set, length-set) (omega arith))
-        ∙ byte-less (with s 0) 1 (omega arith) (rw length-set (omega arith))
-        ∙ byte-less s 0 (omega arith) (omega arith)
+        ∙ on (with (with s 0) 1) 2 (omega arith) (rw (length-set, length-set) (omega arith))
+        ∙ on (with s 0) 1 (omega arith) (rw length-set (omega arith))
+        ∙ on s 0 (omega arith) (omega arith)

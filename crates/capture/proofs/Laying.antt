@@ -19,7 +19,7 @@ use Rattle.rules.specs.Buffer as answers
 use Rattle.rules.specs.Buffer.{stored, fitted}
 use Rattle.rules.specs.Clean.{cleanForm, cleaner}
 use Rattle.rules.proofs.Outcomes.{pass, step, stop, passed, stepped, good-inj, good≢bad}
-use Rattle.rules.proofs.Loops.{rest, _++>_, Doing, doing-start, doing-next, doing-end, doing-bad}
+use Rattle.rules.proofs.Loops.{rest, Doing, doing-start, doing-next, doing-end, doing-bad, done-part}
 use Rattle.capture.specs.File.{big, Packet, recordIn, fileIn}
 use Rattle.capture.specs.Writing.{packetOf, datagram, datagrams, fileOf, writeStored, writeCapture}
 use Rattle.capture.specs.Told.{recordFront, ipFront, udpFront, frontOf, Sendable, Sent, Roomy, recordsOf, LaidBehind, Laid, sumsOf, weighed}
@@ -100,12 +100,6 @@ file-grows ks ls = omega (arith, go ks)
     go [] = omega arith
     go (x ∷ ks) = omega (arith, length-append (recordIn big x) (join (map (recordIn big) ks)), length-append (recordIn big x) (join (map (recordIn big) (ks ++ ls))), go ks)
 
--- what is done is a part of the whole
-done-part : {A : Type 0} (done : List A) (o : Outcome (List A)) (l : List A) → (done ++> o) ≡ good l → (r : List A) × (done ++ r ≡ l)
-unfolding _++>_
-done-part done (good r) l e = (r, good-inj e)
-done-part done (bad n p) l e = absurd (good≢bad e)
-
 pub record Laying (s : List ℕ) (port : ℕ) (before after : List ℕ) (to at : ℕ) : Type 0 where
   pub done : List rule.Message
   pub doing : Doing (datagram port) s (map (packetFor port) done) at
@@ -142,7 +136,7 @@ module _ (s : List ℕ) (port : ℕ) (before : List ℕ) (q : Roomy s port (leng
 
         room : to + (58 + length (write (w .held))) ≤ length before
         room =
-            let (r, e) = done-part (map (packetFor port) (inv .done ++ (w .held ∷ []))) _ (q .packs) (sym next-doing ∙ q .reads) in
+            let (r, e) = done-part (map (packetFor port) (inv .done ++ (w .held ∷ []))) _ (sym next-doing ∙ q .reads) in
             let g = file-grows (map (packetFor port) (inv .done ++ (w .held ∷ []))) r in
             omega (arith, g, ap (λ (x : List Packet). length (fileOf x)) e, q .room, file-size port (inv .done ++ (w .held ∷ [])), size-next (inv .done) (w .held), inv .end)
 

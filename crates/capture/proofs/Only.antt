@@ -15,6 +15,7 @@ use Rattle.rules.specs.Bytes.{Bytes, at, half, word, put32, part, join}
 use Rattle.rules.specs.Items.{items, All, all-nil, all-cons}
 use Rattle.rules.proofs.Outcomes.{passed, stepped, fronted, both, good-inj, good≢bad}
 use Rattle.rules.proofs.Numbers.{put32-word, put16-half, word-lt, bytes-drop, bytes-tail, bytes-cons, bytes-nil}
+use Rattle.rules.proofs.Loops.{drop-pred}
 use Rattle.capture.specs.File.{Order, big, little, halfIn, wordIn, put16In, put32In, magic, headerGood, orderOf, Packet, packet, packets, recordIn, fileIn}
 use Rattle.capture.specs.Claims.{Fits, FileOnly}
 
@@ -114,10 +115,6 @@ record AllBack (o : Order) (s : List ℕ) (ks : List Packet) : Type 0 where
   fit : All Fits ks
   is : join (map (recordIn o) ks) ≡ s
 
-pub drop-one : (n x : ℕ) (s : List ℕ) → 1 ≤ n → drop (n - 1) s ≡ drop n (x ∷ s)
-drop-one zero x s h = absurd (omega arith)
-drop-one (suc n) x s h = let e : suc n - 1 ≡ n = omega arith in rw e
-
 all-back : (o : Order) (k p : ℕ) (s : List ℕ) {ks : List Packet} → Bytes s → items (packet o) k p s ≡ good ks → AllBack o (drop k s) ks
 unfolding items
 all-back o k p [] {ks} b e = let q : [] ≡ ks = cc in rw (← q, drop-nil) (record { fit = all-nil; is = refl })
@@ -127,7 +124,7 @@ all-back o zero p (x ∷ s) b e =
     let (l, i, e) = fronted _ _ e in
     let w = read-back o p (x ∷ s) (r .0) (r .1) b g in
     let v = all-back o (r .1 - 1) (suc p) s (bytes-tail b) i in
-    rw (← e) (record { fit = all-cons (w .fit) (v .fit); is = ap (λ (t : List ℕ). recordIn o (r .0) ++ t) (v .is ∙ drop-one (r .1) x s (w .least)) ∙ w .is })
+    rw (← e) (record { fit = all-cons (w .fit) (v .fit); is = ap (λ (t : List ℕ). recordIn o (r .0) ++ t) (v .is ∙ sym (drop-pred (r .1) x s (w .least))) ∙ w .is })
 
 -- the file header
 order-good : (file : List ℕ) (o : Order) → orderOf file ≡ good o → headerGood o file ≡ true

@@ -13,20 +13,15 @@ use Rattle.rules.specs.Outcome.{good}
 use Rattle.rules.specs.Bytes.{half, word, put32, join}
 use Rattle.rules.specs.Items.{All}
 use Rattle.rules.proofs.Outcomes.{pass, step}
-use Rattle.rules.proofs.Numbers.{word-put32, half-put16}
+use Rattle.rules.proofs.Numbers.{word-put32}
 use Rattle.rules.proofs.Walk.{items-join}
-use Rattle.capture.specs.File.{Order, big, little, halfIn, wordIn, put16In, put32In, magic, headerGood, orderOf, Packet, packet, packets, recordIn, fileIn}
+use Rattle.capture.specs.File.{Order, big, little, halfIn, wordIn, put32In, magic, headerGood, orderOf, Packet, packet, packets, recordIn, fileIn}
 use Rattle.capture.specs.Claims.{Fits}
 
 pub word-put : (o : Order) (x : ℕ) (t : List ℕ) → x < 4294967296 → wordIn o (put32In o x t) 0 ≡ x
 unfolding wordIn word
 word-put big x t h = word-put32 x t h
 word-put little x t h = word-put32 x t h
-
-pub half-put : (o : Order) (x : ℕ) (t : List ℕ) → x < 65536 → halfIn o (put16In o x t) 0 ≡ x
-unfolding halfIn half
-half-put big x t h = half-put16 x t h
-half-put little x t h = omega arith
 
 -- the record of a packet is read as the packet
 pub record-length : (k : Packet) (o : Order) → length (recordIn o k) ≡ 16 + length (k .bytes)

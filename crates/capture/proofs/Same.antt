@@ -1,6 +1,6 @@
 -- A promise allows one outcome alone: what reading and writing a capture tell settles the answer and the buffer.
 use Prim.Native.Nat.{ℕ}
-use mathlib.Core.Path.{_≡_, refl, sym, ap, ap₂}
+use mathlib.Core.Path.{_≡_, sym, ap, ap₂}
 use mathlib.Core.List.{List}
 use Rattle.rules.specs.Claims.{TellsApart}
 use Rattle.refusal.proofs.Numbers.{number-positive, same-refusal}

@@ -14,11 +14,11 @@ use Rattle.rules.specs.Bytes.{Bytes, at, half, word, part, join}
 use Rattle.rules.specs.Items.{items, All, all-nil, all-cons}
 use Rattle.rules.proofs.Outcomes.{both, pass, halt}
 use Rattle.rules.proofs.Walk.{items-next, items-stop}
+use Rattle.rules.proofs.Loops.{drop-pred}
 use Rattle.capture.specs.File.{Order, big, little, halfIn, wordIn, magic, headerGood, orderOf, Packet, packet, packets, recordIn, fileIn}
 use Rattle.capture.specs.Twins.{other, turned4, turnedRecord, turnedRecords, turnedBehind, turnedHeader, twin, freeIn}
 use Rattle.capture.specs.Claims.{Fits}
 use Rattle.capture.proofs.Orders.{record-length, record-fields, behind-header, file-length, good-order}
-use Rattle.capture.proofs.Only.{drop-one}
 
 -- ---- records
 
@@ -43,7 +43,7 @@ unfolding turnedRecords
 next o [] l = absurd (omega arith)
 next o (x ∷ s) l =
     ap (λ (t : List ℕ). turnedRecord o (x ∷ s) ++ t)
-    (skipped o (16 + wordIn o (x ∷ s) 8 - 1) s ∙ ap (turnedRecords o 0) (drop-one (16 + wordIn o (x ∷ s) 8) x s (omega arith)))
+    (skipped o (16 + wordIn o (x ∷ s) 8 - 1) s ∙ ap (turnedRecords o 0) (sym (drop-pred (16 + wordIn o (x ∷ s) 8) x s (omega arith))))
 
 -- a record that the file's end cuts, in its header or behind it
 module _ (o : Order) (p : ℕ) (s : List ℕ) (l : 1 ≤ length s) where

@@ -3,7 +3,7 @@ use Prim.Native.Nat.{ℕ, zero, suc, _+_, _-_, _*_, _/_, _%_, _≤_, _<_}
 use mathlib.Core.Path.{_≡_, refl, sym, ap, _∙_}
 use mathlib.Core.Bool.{Bool, true, false, not, _||_}
 use mathlib.Core.List.{List, [], _∷_, _++_, map, append-nil}
-use native.Mathlib.Nat.{div-div-eq-div-mul, zero-add, zero-mul, mul-le-mul-left}
+use native.Mathlib.Nat.{zero-add, zero-mul, mul-le-mul-left}
 use native.Mathlib.Omega.{arith}
 use borrow.Author.Tests.{lt-ltb, le-ltb, ltb-false, le-leb, lt-leb, eq-eqb, ne-eqb}
 use lib.Dec.{ltb, eqb}
@@ -21,7 +21,7 @@ use Rattle.rules.specs.Valid as rules
 use Rattle.rules.proofs.Outcomes.{pass, halt, step, stop, stop-before, passed, stepped, after, good-inj, good≢bad}
 use Rattle.rules.proofs.Cut as Cut
 use Rattle.rules.proofs.Passed.{Passed, passes}
-use Rattle.rules.proofs.Cleaned.{pieces-clean, any-filled, fills, payload-bytes}
+use Rattle.rules.proofs.Cleaned.{pieces-clean, any-filled, fills, payload-bytes, flags-back}
 use Rattle.rules.proofs.Valids.{valid, run-length, payload-length}
 use Rattle.rules.proofs.RoundTrip.{read-written}
 use Rattle.compose.specs.declared.Record.{Record}
@@ -40,17 +40,6 @@ use Rattle.fragments.proofs.Beginning.{size-all}
 -- an answer and its buffer
 abbrev pub answer : ℕ → ℕ → ℕ → ℕ → List ℕ → CutAnswer × List ℕ
 answer n p k f b = (record { number = n; place = p; bytes = k; fragments = f }, b)
-
--- the flags of a message that passes are the record's and flag 7
-flags-back : (f a : ℕ) → f < 256 → f / 16 % 4 ≡ 0 → f / 128 % 2 ≡ a → f / 64 % 2 * 64 + f % 16 + a * 128 ≡ f
-flags-back f a l g h =
-    let i : f / 16 / 4 ≡ f / 64 = div-div-eq-div-mul f 16 4 in
-    let j : f / 64 / 2 ≡ f / 128 = div-div-eq-div-mul f 64 2 in
-    let top : f / 128 % 2 ≡ f / 128 = omega arith in
-    let k : f / 128 * 2 + f / 64 % 2 ≡ f / 64 = omega arith in
-    let m : f / 64 * 4 + f / 16 % 4 ≡ f / 16 = omega arith in
-    let n : f / 16 * 16 + f % 16 ≡ f = omega arith in
-    omega arith
 
 -- the numbers of a record that a reading's header has
 pub record Same (r : Record) (k : MessageSpot) : Type 0 where

@@ -11,8 +11,8 @@ use Rattle.rules.specs.Bytes.{join}
 use Rattle.rules.specs.Items.{All, all-nil, all-cons}
 use Rattle.rules.specs.Valid as rules
 use Rattle.fragments.specs.Fragment.{FIRST, MIDDLE, LAST, Fragment, optionsOf, offsetOption, offsetIn, offsetOf, payloadsOf, nextNumber}
-use Rattle.fragments.specs.Cutting.{fragmentWith, middleOrLast, laterFragments, fragmentsWith, noOffset}
-use Rattle.fragments.specs.Claims.{Behind, Follow, end, next, WholeSet, one, many, Filled, last, full}
+use Rattle.fragments.specs.Cutting.{fragmentWith, laterFragments, fragmentsWith, noOffset}
+use Rattle.fragments.specs.Claims.{Behind, Follow, end, next, WholeSet, many, Filled, last, full}
 use Rattle.rules.specs.Items.{none}
 use Rattle.fragments.proofs.Options.{Run, Once, made-of, once-of, run-options, run-whole, offset-run, offset-once, only-offset, offset-behind}
 use Rattle.fragments.proofs.Again.{Valid}
@@ -47,10 +47,6 @@ module _ (w : Fragment) (v : Valid w) where
     words = m;
     size = z;
   }
-
-  middle-lt : (cs : List (List ℕ)) → middleOrLast cs < 4
-  middle-lt [] = omega arith
-  middle-lt (c ∷ cs) = omega arith
 
   later-valid : {size : ℕ} {cs : List (List ℕ)} {s : List ℕ} → Chunks size cs s → size % 4 ≡ 0 → length s % 4 ≡ 0 → length s ≤ 65536
       → (o q : ℕ) → q < 4294967296 → All Valid (laterFragments w o q cs)

@@ -9,7 +9,7 @@ use native.Mathlib.Omega.{arith}
 use borrow.Author.Tests.{ne-eqb, lt-ltb, le-ltb}
 use lib.ListN.{length, take, drop, length-append, length-drop, drop-of-length-le, List·getD-append}
 use lib.Seq.{drop-append-seam, drop-drop, getD-drop}
-use Rattle.rules.specs.Outcome.{good, bad, _>>_, OPTION}
+use Rattle.rules.specs.Outcome.{good, bad, OPTION}
 use Rattle.rules.specs.Bytes.{at}
 use Rattle.rules.specs.Options.{optionSize}
 use Rattle.rules.proofs.Outcomes.{pass, halt}
@@ -99,16 +99,6 @@ module _ (o : List ℕ) (i : ℕ) (w : Finding o i) where
   ended l = sym (w .place ∙ rw (drop-of-length-le o l, add-zero))
 
 -- ---- what the place says
-
--- none is there, or there is one
-pub place-most : {cs : List (List ℕ)} {o : List ℕ} → Run cs o → offsetPlace cs ≤ length o
-unfolding offsetPlace
-place-most none = omega arith
-place-most (more {c = c} {cs = cs} {s = o} h r) = go (isOffset c) refl (place-most r)
-  where
-    go : (b : Bool) → isOffset c ≡ b → offsetPlace cs ≤ length o → offsetPlace (c ∷ cs) ≤ length (c ++ o)
-    go true t l = rw (t, offsetPlace) (omega arith)
-    go false t l = rw (t, offsetPlace) (omega (arith, length-append c o))
 
 -- an 0x86 is refused where it stands
 pub place-refused : {cs : List (List ℕ)} {o : List ℕ} → Run cs o → (p : ℕ) → offsetPlace cs < length o → noOffset p cs ≡ bad OPTION (p + offsetPlace cs)

@@ -1,7 +1,6 @@
 -- What joining answers, by what was gathered.
 use Prim.Native.Nat.{ℕ, suc, _+_, _-_, _*_, _/_, _%_, _≤_, _<_}
 use mathlib.Core.Path.{_≡_, refl, sym, ap, _∙_}
-use mathlib.Core.Logic.{⊎-elim}
 use mathlib.Core.Bool.{Bool, true, false}
 use mathlib.Core.List.{List, [], _∷_, _++_, append-nil, append-assoc}
 use mathlib.Core.Option.{none}
@@ -20,7 +19,7 @@ use Rattle.rules.specs.Message.{Head, head, payloadStart, fragmentBits, standar
 use Rattle.rules.specs.Reading.{messageSpot}
 use Rattle.rules.specs.Clean.{cleanForm}
 use Rattle.rules.specs.Buffer.{Written, stored, fitted}
-use Rattle.rules.proofs.Outcomes.{pass, halt, step, stop, stepped, good-inj, good≢bad, refused-step}
+use Rattle.rules.proofs.Outcomes.{pass, halt, step, stop, stepped, good-inj, good≢bad, refused-only}
 use Rattle.compose.specs.declared.Record.{Record}
 use Rattle.compose.specs.Payload.{Cuts, headerOf}
 use Rattle.fragments.specs.Fragment.{WHOLE, otherBits, Fragment, optionsOf, withoutOffset, fragment, fragmentBytes, payloadsOf}
@@ -446,10 +445,7 @@ too-large s b l = sym (ap (stored b) (stop _ _ (halt _ _ _ _ (lt-ltb 65536 (leng
 
 pub not-gathered : (s b : List ℕ) {n p : ℕ} → length s ≤ 65536 → bad n p ≡ gathered s → answer n p 0 b ≡ joiner s b
 unfolding joiner joined stored gathered
-not-gathered s b {n} {p} l e = sym (ap (stored b) (stop _ _ (pass _ _ _ _ (le-ltb 65536 (length s) l) (stop _ _ (only-bad _ _ (sym e))))))
-  where
-    only-bad : (o : Outcome (List Fragment)) (f : List Fragment → ℕ × ℕ × ℕ) → (o >>= λ a. good (f a)) ≡ bad n p → o ≡ bad n p
-    only-bad o f e = ⊎-elim (λ z. z) (λ z. absurd (good≢bad (sym (z .2)))) (refused-step _ _ e)
+not-gathered s b {n} {p} l e = sym (ap (stored b) (stop _ _ (pass _ _ _ _ (le-ltb 65536 (length s) l) (stop _ _ (refused-only _ _ (sym e))))))
 
 pub never : {A : Type 0} (s : List ℕ) {n p o st k : ℕ} → 1 ≤ length s → bad n p ≡ headerAt s 0 → good (o, st, k) ≡ gathered s → A
 never s l e f = absurd (good≢bad (first-stopped s l e ∙ sym f))

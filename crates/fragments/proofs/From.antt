@@ -2,7 +2,7 @@
 use Prim.Native.Nat.{ℕ, zero, suc, _+_, _-_, _≤_}
 use mathlib.Core.Path.{_≡_, refl, _∙_}
 use mathlib.Core.Logic.{_⊎_, inl, inr}
-use mathlib.Core.Bool.{true, false, not, _||_}
+use mathlib.Core.Bool.{true, false, _||_}
 use mathlib.Core.List.{List, [], _∷_, _++_}
 use mathlib.Core.Option.{Option, none, some}
 use native.Mathlib.Nat.{add-zero, add-suc, suc-add}
@@ -11,7 +11,7 @@ use borrow.Author.Tests.{eq-eqb}
 use lib.Dec.{eqb}
 use lib.ListN.{length, drop, length-append}
 use lib.Seq.{drop-append-seam}
-use Rattle.rules.specs.Outcome.{good, bad, _>>_, _>>=_, _∷>_}
+use Rattle.rules.specs.Outcome.{good, bad, _∷>_}
 use Rattle.refusal.specs.Numbers.{GAP}
 use Rattle.rules.specs.Items.{All, all-nil, all-cons}
 use Rattle.rules.proofs.Outcomes.{pass, halt, step, stop, front-of}

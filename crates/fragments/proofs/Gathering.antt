@@ -11,14 +11,14 @@ use borrow.Author.Tests.{eqb-true, eq-eqb, ne-eqb, not-true, not-false}
 use lib.Dec.{eqb}
 use lib.ListN.{length, drop, length-append, length-drop, length-take, drop-of-length-le}
 use lib.Seq.{drop-drop}
-use Rattle.rules.specs.Outcome.{Outcome, good, bad, refuse, _>>_, _>>=_, _∷>_}
+use Rattle.rules.specs.Outcome.{Outcome, good, bad, refuse, _>>_, _∷>_}
 use Rattle.refusal.specs.Numbers.{GAP}
 use Rattle.rules.specs.Bytes.{Bytes, part}
 use Rattle.rules.specs.Message.{Head, head, payloadStart, payload, fragmentBits, optionRunLength}
-use Rattle.rules.proofs.Outcomes.{pass, halt, step, stop, stepped, passed, came-after, both, good-inj, good≢bad, refused-step, refused-pass}
+use Rattle.rules.proofs.Outcomes.{pass, halt, step, stop, stepped, passed, came-after, both, good-inj, good≢bad, refused-step, refused-pass, refused-only}
 use Rattle.rules.proofs.Run.{run-ends}
 use Rattle.rules.proofs.Numbers.{bytes-drop}
-use Rattle.rules.proofs.Loops.{_++>_}
+use Rattle.rules.proofs.Loops.{_++>_, onward}
 use Rattle.fragments.specs.Fragment.{WHOLE, FIRST, MIDDLE, otherBits, Fragment, optionsOf, offsetIn, offsetOf, fragmentOf, fragment, payloadsOf, nextNumber}
 use Rattle.fragments.specs.Joining.{saysOffset, begins, goesOn, behindOffset, follows, inPlace, complete, fragmentsFrom}
 use Rattle.fragments.specs.declared.Passed.{Passed}
@@ -118,11 +118,6 @@ pub record Gathering (s : List ℕ) (h : Head) (i last q o : ℕ) (st : Passed) 
 pub gathered-few : (s : List ℕ) (h : Head) (i last q o : ℕ) (st : Passed) → Gathering s h i last q o st → length s ≤ 65536 → st .packages ≤ 65536
 gathered-few s h i last q o st w l = omega (arith, w .packages, w .total, w .most, w .inside, starts-few 0 (payloadsOf (w .first ∷ w .more)))
 
-onward : {A : Type 0} (done : List A) (a : A) (o : Outcome (List A)) → (done ++> (a ∷> o)) ≡ ((done ++ (a ∷ [])) ++> o)
-unfolding _++>_ _∷>_
-onward done a (good l) = ap good (sym (append-assoc done (a ∷ []) l))
-onward done a (bad n p) = refl
-
 front-good : {A : Type 0} (a : A) (o : Outcome (List A)) → (a ∷> o) ≡ ((a ∷ []) ++> o)
 unfolding _++>_ _∷>_
 front-good a (good l) = refl
@@ -202,11 +197,8 @@ module _ (s : List ℕ) (h : Head) (i last q o : ℕ) (st : Passed) (w : Gatheri
   pub next-stopped : {n p : ℕ} → bad n p ≡ headerAt s i → bad n p ≡ gathered s
   unfolding gathered headerAt fragment _++>_
   next-stopped {n} {p} e =
-      let z : optionRunLength i (drop i s) (head (drop i s)) ≡ bad n p = only-bad _ _ (sym e) in
+      let z : optionRunLength i (drop i s) (head (drop i s)) ≡ bad n p = refused-only _ _ (sym e) in
       sym (stop _ _ (w .same ∙ rw (from-stop (some (w .prev)) i (drop i s) (omega (arith, length-drop i s)) (stop _ _ z))))
-    where
-      only-bad : (o : Outcome ℕ) (f : ℕ → Head × ℕ) → (o >>= λ a. good (f a)) ≡ bad n p → o ≡ bad n p
-      only-bad o f e = ⊎-elim (λ z. z) (λ z. absurd (good≢bad (sym (z .2)))) (refused-step _ _ e)
 
   module _ (g : Head) (n : ℕ) (k : Headed s i g n) where
     follows-is : follows (w .prev) (k .held) ≡ fitsBehind h last q o g (part (i + 24) (i + 24 + n) s)
@@ -285,10 +277,7 @@ nothing (x ∷ s) l = absurd (omega arith)
 
 pub first-stopped : (s : List ℕ) {n p : ℕ} → 1 ≤ length s → bad n p ≡ headerAt s 0 → bad n p ≡ gathered s
 unfolding gathered headerAt fragment
-first-stopped s {n} {p} l e = sym (stop _ _ (from-stop none 0 s l (stop _ _ (only-bad _ _ (sym e)))))
-  where
-    only-bad : (o : Outcome ℕ) (f : ℕ → Head × ℕ) → (o >>= λ a. good (f a)) ≡ bad n p → o ≡ bad n p
-    only-bad o f e = ⊎-elim (λ z. z) (λ z. absurd (good≢bad (sym (z .2)))) (refused-step _ _ e)
+first-stopped s {n} {p} l e = sym (stop _ _ (from-stop none 0 s l (stop _ _ (refused-only _ _ (sym e)))))
 
 -- ---- the next fragment, as it is told
 

@@ -7,14 +7,14 @@ use mathlib.Core.List.{List, [], _∷_, append-nil}
 use native.Mathlib.Omega.{arith}
 use lib.Dec.{eqb}
 use lib.ListN.{length, drop, length-append, length-take}
-use Rattle.rules.specs.Outcome.{good, bad, _>>_, _>>=_, STANDARD, PACKAGE, COUNT}
+use Rattle.rules.specs.Outcome.{good, bad, STANDARD, PACKAGE, COUNT}
 use Rattle.rules.specs.Bytes.{Bytes, pad, padded, part}
 use Rattle.rules.specs.Items.{All, all-nil, all-cons}
 use Rattle.rules.specs.Options.{optionRunFrom}
-use Rattle.rules.specs.Message.{head, payloadStart, payload, everyCheck, recordOf, message}
+use Rattle.rules.specs.Message.{head, payloadStart, payload, everyCheck, recordOf}
 use Rattle.rules.specs.Writer.{write}
 use Rattle.rules.specs.Clean.{cleanForm}
-use Rattle.rules.proofs.Outcomes.{stepped, good-inj, good≢bad, refused-pass, refused-step}
+use Rattle.rules.proofs.Outcomes.{stepped, good-inj, good≢bad, refused-pass, refused-step, refused-only}
 use Rattle.rules.proofs.Numbers.{bytes-cons, bytes-nil, bytes-put32, bytes-zeros, bytes-append}
 use Rattle.rules.proofs.Cut as Cut
 use Rattle.rules.proofs.Run.{run-ends}
@@ -24,7 +24,7 @@ use Rattle.rules.proofs.Passed.{Passed, passes}
 use Rattle.rules.proofs.Cleaned.{write-read}
 use Rattle.rules.proofs.Valids.{valid, run-length, payload-length}
 use Rattle.fragments.specs.Fragment.{WHOLE, Fragment, fragmentBytes, bytesOf, payloadsOf}
-use Rattle.fragments.specs.Joining.{keptOptions, joinedWith, joined}
+use Rattle.fragments.specs.Joining.{keptOptions, joinedWith}
 use Rattle.fragments.proofs.Options.{made-of, once-of, run-whole, run-without, once-less}
 use Rattle.fragments.proofs.Again.{Valid, length-fragment, openChecks, whole-checks}
 use Rattle.fragments.proofs.Readings.{ReadAll}
@@ -172,7 +172,7 @@ module _ (f : Fragment) (fs : List Fragment) (s : List ℕ) (l : length s ≤ 65
 
   pub joined-refused : {n q : ℕ} → cleanForm (fragmentBytes whole) ≡ bad n q → (n ≡ STANDARD) ⊎ (n ≡ PACKAGE) ⊎ (n ≡ COUNT)
   unfolding cleanForm
-  joined-refused {n} {q} e = ⊎-elim (λ z. open-refused (sym whole-open ∙ z)) (λ z. absurd (good≢bad (sym (z .2)))) (refused-step _ _ e)
+  joined-refused {n} {q} e = open-refused (sym whole-open ∙ refused-only _ _ e)
     where
       open-refused : openChecks whole whole-valid [] 0 ≡ bad n q → (n ≡ STANDARD) ⊎ (n ≡ PACKAGE) ⊎ (n ≡ COUNT)
       open-refused h =

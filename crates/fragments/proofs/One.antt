@@ -1,5 +1,5 @@
 -- One whole message that passes, joined, is cleaned.
-use Prim.Native.Nat.{ℕ, _+_, _-_, _*_, _/_, _%_, _≤_}
+use Prim.Native.Nat.{ℕ, _+_, _*_, _/_, _%_, _≤_}
 use mathlib.Core.Path.{_≡_, refl, sym, ap, _∙_}
 use mathlib.Core.List.{List, [], _∷_, _++_, append-nil}
 use mathlib.Core.Option.{none, some}
@@ -8,7 +8,7 @@ use native.Mathlib.Omega.{arith}
 use borrow.Author.Tests.{le-ltb, eq-eqb}
 use lib.ListN.{length}
 use lib.Seq.{drop-length}
-use Rattle.rules.specs.Outcome.{good, _>>_, _>>=_}
+use Rattle.rules.specs.Outcome.{good}
 use Rattle.rules.specs.Bytes.{Bytes, oneIfAny}
 use Rattle.rules.specs.Message.{head, payload, checksOneToNine, checksOneToTen, everyCheck, recordOf, message}
 use Rattle.rules.specs.Clean.{cleanForm}

@@ -2,7 +2,7 @@
 use Prim.Native.Nat.{ℕ, zero, suc, _+_, _-_, _≤_, _<_}
 use mathlib.Core.Path.{_≡_, refl, sym, ap, subst, _∙_}
 use mathlib.Core.Logic.{_⊎_, inl, inr, ⊎-elim}
-use mathlib.Core.Bool.{Bool, true, false, not, _&&_, _||_}
+use mathlib.Core.Bool.{Bool, true, false, _&&_, _||_}
 use mathlib.Core.List.{List, [], _∷_, _++_, append-assoc}
 use mathlib.Core.Option.{Option, none, some}
 use native.Mathlib.Nat.{zero-add}
@@ -10,10 +10,10 @@ use native.Mathlib.Omega.{arith}
 use borrow.Author.Tests.{eqb-true, eqb-false, eq-eqb, not-true}
 use lib.Dec.{eqb}
 use lib.ListN.{length}
-use Rattle.rules.specs.Outcome.{Outcome, good, bad, _>>_, _>>=_, _∷>_}
+use Rattle.rules.specs.Outcome.{good, bad}
 use Rattle.refusal.specs.Numbers.{GAP}
 use Rattle.rules.specs.Items.{items, All, all-nil, all-cons}
-use Rattle.rules.proofs.Outcomes.{pass, halt, step, stepped, fronted, front-of, both, good-inj}
+use Rattle.rules.proofs.Outcomes.{pass, halt, step, stepped, fronted, front-of, both, good-inj, stop-front, neither}
 use Rattle.rules.specs.Bytes.{word}
 use Rattle.rules.specs.Options.{optionSize}
 use Rattle.fragments.specs.Fragment.{WHOLE, FIRST, MIDDLE, LAST, Fragment, parts, isOffset, offsetIn, offsetOf, fragmentOf, fragment, nextNumber}
@@ -32,10 +32,6 @@ pub data Placed : Option Fragment → List Fragment → Type 0 where
 pub either : (a b : Bool) → (a || b) ≡ true → (a ≡ true) ⊎ (b ≡ true)
 either true b e = inl refl
 either false b e = inr e
-
-neither : (a b : Bool) → (a || b) ≡ false → (a ≡ false) × (b ≡ false)
-neither true b e = (e, cc)
-neither false b e = (refl, e)
 
 pub says : (x : Option ℕ) (n : ℕ) → saysOffset x n ≡ true → x ≡ some n
 says none n e = cc
@@ -136,10 +132,6 @@ placed-set (all-cons {a = f} {l = fs} few all) (more i r) = ⊎-elim (λ z. whol
         many e (says _ _ y) (placed-follow f 0 few (omega arith) (says _ _ y) all r)
 
 -- ---- reading, decided
-
-stop-front : {A : Type 0} (a : A) (o : Outcome (List A)) {n p : ℕ} → o ≡ bad n p → (a ∷> o) ≡ bad n p
-unfolding _∷>_
-stop-front a o e = rw e
 
 -- fragments one behind the other, each in its place behind b; e is the last of them
 pub data Chain : Option Fragment → List Fragment → Option Fragment → Type 0 where

@@ -143,11 +143,6 @@ onePiece (a, b) = (record { number = a .number; place = a .place; bytes = a .byt
 
 -- ---- joining
 
--- an outcome with the place of its refusal moved
-unfoldable pub moved : {A : Type 0} → ℕ → Outcome A → Outcome A
-moved p (good a) = good a
-moved p (bad n q) = bad n (p + q)
-
 -- the header at place i, read with checks 1 to 7; and how long its option run is
 unfoldable pub headerAt : List ℕ → ℕ → Outcome (Head × ℕ)
 headerAt s i = do

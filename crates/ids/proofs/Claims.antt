@@ -1,7 +1,7 @@
 -- Each claim of specs/Claims.antt, proved.
 use Prim.Native.Nat.{ℕ, _+_, _≤_, _<_}
 use mathlib.Core.Path.{_≡_, refl, sym, ap, subst, _∙_}
-use mathlib.Core.Logic.{_⊎_, inl, inr, ⊎-elim}
+use mathlib.Core.Logic.{⊎-elim}
 use mathlib.Core.Bool.{Bool, true, false}
 use mathlib.Core.List.{List, [], _∷_, _++_, append-assoc, map}
 use native.Mathlib.Nat.{zero-add}
@@ -10,14 +10,14 @@ use borrow.Author.Tests.{ltb-true, ltb-false, lt-ltb, le-ltb}
 use lib.Dec.{ltb}
 use lib.ListN.{length, take, drop, length-append, length-map, take-append-drop}
 use lib.Seq.{take-append-seam, take-append-add, take-take}
-use Rattle.rules.specs.Outcome.{Outcome, good, bad, _>>_}
+use Rattle.rules.specs.Outcome.{Outcome, good, bad}
 use Rattle.rules.specs.Items.{All, all-nil, all-cons}
 use Rattle.rules.specs.Message.{mostBytes}
 use Rattle.refusal.specs.Numbers.{TEXT}
-use Rattle.rules.proofs.Outcomes.{pass, passed, halt, step, stepped, stop, good-inj, bad-inj, good≢bad, refused-at, refused-step, came-after}
+use Rattle.rules.proofs.Outcomes.{pass, passed, halt, step, stepped, stop, good-inj, bad-inj, good≢bad, refused-at, refused-step, came-after, refused-checks}
 use Rattle.rules.proofs.Kept.{careful-stored, roomless, writes}
 use Rattle.ids.specs.Line.{Item, Reads, IsList, alone, followed}
-use Rattle.ids.specs.Reader.{listAt, rangesOf, idRanges, mostItems, Range}
+use Rattle.ids.specs.Reader.{listAt, rangesOf, idRanges, Range}
 use Rattle.ids.specs.Claims.{OneReading, Accepted, ReadExactly, Begins, Breaks, Faulty, Refused, large, form, fault, RefusedExactly, NoLeadingZeros, SingleWhereEqual, RangeFits, Writable, WrittenExactly, WrittenRead, ReadWritten, PlainShortest, Ordered, Fits, rangeOf, FirstBad, Unwritten, none, bad-range, UnwrittenExactly, WriterWrites, BufferKept, LineShort}
 use Rattle.ids.specs.Worked.{Worked}
 use Rattle.ids.specs.Writer.{lineText, rangesKept, lineOf, writeIds}
@@ -151,12 +151,6 @@ refused-exactly s n p = (refused s n p, refuses s)
 
 -- ---- Writing
 
--- where a block of checks is refused, or what follows it
-refused-block : {A : Type 0} (c : Outcome (Unit {0})) (o : Outcome A) {n p : ℕ} → (c >> o) ≡ bad n p → (c ≡ bad n p) ⊎ (o ≡ bad n p)
-unfolding _>>_
-refused-block (good tt) o e = inr e
-refused-block (bad m q) o e = let (a, b) = bad-inj e in inl (rw (a, b))
-
 pub no-leading-zeros : NoLeadingZeros
 no-leading-zeros n h = plain n h
 
@@ -257,7 +251,7 @@ unwritten-at rs {m} {p} (e, b) = subst (λ (k : ℕ). Unwritten rs k p) e (bad-r
 unwritten : (rs : List Range) (n p : ℕ) → lineOf rs ≡ bad n p → Unwritten rs n p
 unfolding lineOf
 unwritten [] n p e = let (a, b) = bad-inj e in subst (λ (k : ℕ). Unwritten [] k p) a (subst (Unwritten [] TEXT) b none)
-unwritten (r ∷ rs) n p e = ⊎-elim (λ z. unwritten-at (r ∷ rs) (kept-bad 0 (r ∷ rs) (omega arith) z)) (λ z. absurd (good≢bad (sym z))) (refused-block _ _ e)
+unwritten (r ∷ rs) n p e = unwritten-at (r ∷ rs) (kept-bad 0 (r ∷ rs) (omega arith) (refused-checks _ _ e))
 
 bad-there : (rs : List Range) {p : ℕ} → FirstBad rs p → lineOf rs ≡ bad TEXT p
 bad-there rs {p} b =

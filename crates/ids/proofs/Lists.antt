@@ -1,7 +1,7 @@
 -- How the reading of a list goes, and that it reads exactly the grammar's lists.
 use Prim.Native.Nat.{ℕ, zero, suc, _+_, _≤_, _<_}
 use mathlib.Core.Path.{_≡_, refl, sym, ap, subst, _∙_}
-use mathlib.Core.Logic.{_⊎_, ⊎-elim}
+use mathlib.Core.Logic.{⊎-elim}
 use mathlib.Core.Bool.{Bool, true, false}
 use mathlib.Core.List.{List, [], _∷_, _++_, append-assoc, append-nil}
 use native.Mathlib.Nat.{add-zero, add-suc, suc-add}
@@ -14,7 +14,7 @@ use lib.Seq.{drop-append-add}
 use Rattle.rules.specs.Outcome.{Outcome, good, bad, _∷>_}
 use Rattle.rules.specs.Bytes.{at}
 use Rattle.refusal.specs.Numbers.{TEXT}
-use Rattle.rules.proofs.Outcomes.{step, stop, pass, halt, front-of}
+use Rattle.rules.proofs.Outcomes.{step, stop, pass, halt, front-of, stop-front}
 use Rattle.ids.specs.Line.{comma, Item, IsItem, IsList, alone, followed}
 use Rattle.ids.specs.Reader.{itemAt, listAt}
 use Rattle.ids.proofs.Items.{seam, Found, Lost, item-view, item-complete, item-least}
@@ -74,10 +74,6 @@ pub data ListView (p : ℕ) (s : List ℕ) : Type 0 where
   whole : {is : List Item} → listAt 0 p s ≡ good is → IsList p s is → ListView p s
   broken : {q : ℕ} → listAt 0 p s ≡ bad TEXT q → Broken p s q → ListView p s
 
-pub front-bad : {A : Type 0} (a : A) (o : Outcome (List A)) {n p : ℕ} → o ≡ bad n p → (a ∷> o) ≡ bad n p
-unfolding _∷>_
-front-bad a o e = rw e
-
 long : (a v : List ℕ) (y : ℕ) → length a < length (a ++ y ∷ v)
 long a v y = rw length-append (omega arith)
 
@@ -135,7 +131,7 @@ module _ (p : ℕ) (a : List ℕ) (i : Item) (it : IsItem p a i) (least : 1 ≤ 
 
     view-more : (u : List ℕ) → y ≡ comma → ListView (p + length a + 1) u → ListView p (a ++ y ∷ u)
     view-more u c (whole e l) = whole (on u c ∙ front-of _ _ e) (rw c (followed it l))
-    view-more u c (broken e b) = broken (on u c ∙ front-bad _ _ e) (record {
+    view-more u c (broken e b) = broken (on u c ∙ stop-front _ _ e) (record {
       text = a ++ y ∷ b .text;
       rest = b .rest;
       more = b .more;
@@ -143,7 +139,7 @@ module _ (p : ℕ) (a : List ℕ) (i : Item) (it : IsItem p a i) (least : 1 ≤ 
       split = rw (append-assoc a (y ∷ b .text) (b .rest)) (ap (λ (z : List ℕ). a ++ y ∷ z) (b .split));
       place = b .place ∙ rw length-append (omega arith);
       goes = rw (append-assoc a (y ∷ b .text) (b .more), c) (followed it (b .goes));
-      read = λ z t v q. rw (append-assoc a (y ∷ b .text) (z ∷ v)) (on (b .text ++ z ∷ v) c ∙ front-bad _ _ (b .read z t v q));
+      read = λ z t v q. rw (append-assoc a (y ∷ b .text) (z ∷ v)) (on (b .text ++ z ∷ v) c ∙ stop-front _ _ (b .read z t v q));
     })
 
 -- an item at p: how the list goes, if it is known how the lists behind it go

@@ -12,11 +12,10 @@ use lib.ListN.{length}
 use Rattle.rules.specs.Outcome.{good, bad}
 use Rattle.rules.specs.Items.{All, all-nil, all-cons}
 use Rattle.refusal.specs.Numbers.{TEXT}
-use Rattle.rules.proofs.Outcomes.{pass, passed, halt, fronted, front-of, refused-at, refused-front, good≢bad, both, good-inj}
+use Rattle.rules.proofs.Outcomes.{pass, passed, halt, fronted, front-of, refused-at, refused-front, good≢bad, both, good-inj, stop-front}
 use Rattle.ids.specs.Line.{Item}
 use Rattle.ids.specs.Reader.{mostItems, itemFits, rangesOf, Range}
 use Rattle.ids.specs.Claims.{Fits, rangeOf}
-use Rattle.ids.proofs.Lists.{front-bad}
 
 pub fits-is : (i : Item) → itemFits i ≡ true → Fits i
 unfolding itemFits
@@ -126,4 +125,4 @@ unfolding rangesOf
 ranges-faulty n i behind all-nil h f = halt _ _ _ _ (refusing i n (rw add-zero at f))
 ranges-faulty n i behind (all-cons {a = j} {l = before} g r) h f =
     let t : (not (itemFits j) || leb mostItems n) ≡ false = rw (fits-yes j g, lt-leb mostItems n (omega arith)) in
-    pass _ _ _ _ t (front-bad _ _ (ranges-faulty (suc n) i behind r (omega arith) (⊎-elim (λ z. inl z) (λ z. inr (omega arith)) f)))
+    pass _ _ _ _ t (stop-front _ _ (ranges-faulty (suc n) i behind r (omega arith) (⊎-elim (λ z. inl z) (λ z. inr (omega arith)) f)))

@@ -14,12 +14,12 @@ use lib.Seq.{getD-drop, drop-drop, drop-cons}
 use Rattle.rules.specs.Outcome.{Outcome, good, bad, _>>=_, _∷>_}
 use Rattle.rules.specs.Bytes.{at}
 use Rattle.refusal.specs.Numbers.{TEXT}
-use Rattle.rules.proofs.Outcomes.{pass, halt, step, stop, good-inj, bad-inj, good≢bad}
+use Rattle.rules.proofs.Outcomes.{pass, halt, step, stop, good-inj, bad-inj, good≢bad, stop-front}
 use Rattle.ids.specs.Line.{comma, hyphen, decimal, Item}
 use Rattle.ids.specs.Reader.{isDigit, digits, idAt, itemBehind, itemAt, listAt}
 use Rattle.ids.specs.Parts.{restAt, formOf}
 use Rattle.ids.proofs.Items.{Found, Lost, item-view, item-none}
-use Rattle.ids.proofs.Lists.{front-bad, list-none, list-bad, list-alone, list-odd, list-more}
+use Rattle.ids.proofs.Lists.{list-none, list-bad, list-alone, list-odd, list-more}
 
 pub digits-most : (k : ℕ) (s : List ℕ) → (digits k s ≤ k) × (digits k s ≤ length s)
 unfolding digits
@@ -46,9 +46,6 @@ byte-behind s p n = getD-drop p s n 0
 module _ (s : List ℕ) (p n v : ℕ) (en : n ≡ digits 10 (drop p s)) (ev : v ≡ decimal 0 (take n (drop p s))) where
   pub few-digits : n ≤ 10
   few-digits = omega (arith, digits-most 10 (drop p s) .0)
-
-  pub digits-inside : p ≤ length s → p + n ≤ length s
-  digits-inside h = omega (arith, digits-most 10 (drop p s) .1, length-drop p s)
 
   pub no-digit : n ≡ 0 → idAt p (drop p s) ≡ bad TEXT p
   unfolding idAt
@@ -138,7 +135,7 @@ module _ (s : List ℕ) (p : ℕ) (i : Item) (n : ℕ) (e : itemAt p (drop p s) 
 
   module _ (l : p + n < length s) (m : n < length (drop p s)) where
     goes-odd : eqb (at s (p + n)) comma ≡ false → Then
-    goes-odd c = list-odd p i n (drop p s) m (rw (byte-behind s p n) c) e ∙ sym (front-bad i _ (rest-odd s (p + n) l (eqb-false _ _ c)))
+    goes-odd c = list-odd p i n (drop p s) m (rw (byte-behind s p n) c) e ∙ sym (stop-front i _ (rest-odd s (p + n) l (eqb-false _ _ c)))
 
     goes-on : eqb (at s (p + n)) comma ≡ true → Then
     goes-on c =

@@ -1,9 +1,9 @@
 -- What the writer stores: an id, an item, a line; and which ranges it takes.
-use Prim.Native.Nat.{ℕ, zero, suc, _+_, _-_, _*_, _/_, _%_, _≤_, _<_, _^_, min}
+use Prim.Native.Nat.{ℕ, suc, _+_, _-_, _*_, _/_, _%_, _≤_, _<_, _^_, min}
 use mathlib.Core.Path.{_≡_, refl, sym, ap, _∙_}
 use mathlib.Core.Bool.{Bool, true, false, _||_}
 use mathlib.Core.List.{List, [], _∷_, _++_, map, append-assoc, append-nil}
-use native.Mathlib.Nat.{zero-add}
+use native.Mathlib.Nat.{zero-add, pos-of-ne-zero}
 use native.Mathlib.Numerals.{add-one}
 use native.Mathlib.Omega.{arith}
 use borrow.Author.Tests.{lt-ltb, le-ltb, le-leb, lt-leb}
@@ -192,11 +192,7 @@ module _ (ranges : List IdRange) (n : ℕ) (w : length ranges ≡ 32) (b : List 
 
   module _ (h : n ≡ 0 → ⊥) where
     some : 1 ≤ length (handedOver n ranges)
-    some = rw (handed-length ranges n w) (pos n h)
-      where
-        pos : (k : ℕ) → (k ≡ 0 → ⊥) → 1 ≤ k
-        pos zero f = absurd (f refl)
-        pos (suc k) f = omega arith
+    some = rw (handed-length ranges n w) (pos-of-ne-zero h)
 
     pub write-bad : (i : ℕ) → bad TEXT i ≡ rangesKept 0 (handedOver n ranges) → (refusedAt TEXT i, b) ≡ writeIds (handedOver n ranges) b
     write-bad i e = refused-line (line-of-bad _ some (sym e))

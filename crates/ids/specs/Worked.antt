@@ -5,7 +5,7 @@ use Prim.Native.String.{String, len, charAt}
 use mathlib.Core.Path.{_≡_}
 use mathlib.Core.List.{List, [], _∷_, _++_}
 use lib.ListN.{length, replicate}
-use Rattle.rules.specs.Outcome.{good, bad, LARGE, ROOM}
+use Rattle.rules.specs.Outcome.{good, LARGE, ROOM}
 use Rattle.rules.specs.Bytes.{join}
 use Rattle.rules.specs.Edges.{Gives, told}
 use Rattle.refusal.specs.Numbers.{TEXT}

@@ -1,5 +1,5 @@
 -- What a turn takes is no more than a window.
-use Prim.Native.Nat.{ℕ, _≤_}
+use Prim.Native.Nat.{_≤_}
 use Rattle.listing.specs.declared.Turn.{Turn}
 use Rattle.listing.specs.declared.Turn.the-variants as turn
 

@@ -1,24 +1,24 @@
 -- A message checked but for its packages, and what follows of the message once they are walked over.
-use Prim.Native.Nat.{ℕ, zero, suc, _+_, _-_, _*_, _≤_, _<_}
+use Prim.Native.Nat.{ℕ, _+_, _-_, _*_, _≤_, _<_}
 use mathlib.Core.Path.{_≡_, refl, sym, ap, _∙_}
 use mathlib.Core.Logic.{⊎-elim}
 use mathlib.Core.Bool.{true, false}
-use mathlib.Core.List.{List, [], _∷_}
-use native.Mathlib.Nat.{add-zero, add-suc}
+use mathlib.Core.List.{List, []}
+use native.Mathlib.Nat.{add-zero}
 use native.Mathlib.Omega.{arith}
 use borrow.Author.Tests.{lt-ltb, le-ltb, ltb-false}
 use lib.ListN.{length, take, drop, length-take, length-drop}
 use lib.Seq.{drop-drop, length-take-le}
-use Rattle.rules.specs.Outcome.{Outcome, good, bad, _∷>_, SHORT, LARGE, PACKAGE, COUNT}
+use Rattle.rules.specs.Outcome.{Outcome, good, bad, SHORT, LARGE, PACKAGE, COUNT}
 use Rattle.rules.specs.Bytes.{part}
-use Rattle.rules.specs.Items.{items}
 use Rattle.rules.specs.Options.{countSaid, differs}
-use Rattle.rules.specs.Packages.{piece, cut}
+use Rattle.rules.specs.Packages.{cut}
 use Rattle.rules.specs.Message.{Head, head, payloadStart, payload, optionRunLength, checksEightAndNine, checksOneToNine, checksOneToTen, everyCheck}
 use Rattle.rules.specs.Reading.{messageSpot, messageAt}
-use Rattle.rules.proofs.Outcomes.{pass, halt, after, step, stop, stop-before, came-after, passed, stepped, good-inj, good≢bad, refused-at, refused-pass, refused-step, refused-front}
+use Rattle.rules.proofs.Outcomes.{pass, halt, after, step, stop, stop-before, came-after, passed, stepped, good-inj, refused-at, refused-only}
 use Rattle.rules.proofs.Cut as Cut
 use Rattle.rules.proofs.Loops.{rest}
+use Rattle.rules.proofs.Shifted.{shifted, shifted-cut}
 use Rattle.rules.proofs.Passed.{Sound, sound}
 use Rattle.rules.proofs.Run.{run-ends}
 use Rattle.refusal.specs.declared.Refusal.{Refusal}
@@ -72,31 +72,9 @@ module _ (s : List ℕ) (p : ℕ) where
 
 -- ---- a cut at another place
 
-module _ (d p : ℕ) (s : List ℕ) where
-  piece-good : {r : List ℕ × ℕ} → piece p s ≡ good r → piece (d + p) s ≡ good r
-  unfolding piece
-  piece-good e = let (t, q) = passed _ _ _ _ e in pass _ _ _ _ t q
-
-  piece-bad : {n i : ℕ} → piece p s ≡ bad n i → piece (d + p) s ≡ bad n (d + i)
-  unfolding piece
-  piece-bad e = ⊎-elim (λ z. rw (← z .1, ← z .2) (halt _ _ _ _ (z .0))) (λ g. absurd (good≢bad (sym g))) (refused-pass _ _ _ _ e)
-
-front-stop : {A : Type 0} (a : A) (o : Outcome (List A)) {n p : ℕ} → o ≡ bad n p → (a ∷> o) ≡ bad n p
-unfolding _∷>_
-front-stop a o e = rw e
-
--- where it is refused, it is refused as far behind its beginning
-moved : (d k p : ℕ) (s : List ℕ) {n i : ℕ} → items piece k p s ≡ bad n i → items piece k (d + p) s ≡ bad n (d + i)
-unfolding items
-moved d k p [] e = absurd (good≢bad (sym e))
-moved d (suc k) p (x ∷ s) e = rw (← add-suc) (moved d k (suc p) s e)
-moved d zero p (x ∷ s) e =
-    ⊎-elim (λ z. stop _ _ (piece-bad d p (x ∷ s) z))
-    (λ w. step _ _ (piece-good d p (x ∷ s) (w .1)) (front-stop _ _ (rw (← add-suc) (moved d (w .0 .1 - 1) (suc p) s (refused-front _ _ (w .2))))))
-    (refused-step _ _ e)
-
 pub cut-bad : (p : ℕ) (s : List ℕ) {n i : ℕ} → cut 0 s ≡ bad n i → cut p s ≡ bad n (p + i)
-cut-bad p s e = rw add-zero at (moved p 0 0 s e)
+unfolding shifted
+cut-bad p s e = rw add-zero at (shifted-cut p 0 s) ∙ ap (shifted p) e
 
 pub cut-good : (p : ℕ) (s : List ℕ) {cs : List (List ℕ)} → cut 0 s ≡ good cs → cut p s ≡ good cs
 cut-good p s e = Cut.complete (Cut.sound 0 0 s e) p
@@ -150,7 +128,7 @@ unfolding frontAt messageAt
 front-refused s k f e =
     sym
     (⊎-elim (λ z. rw (← z .1, ← z .2) (halt _ _ _ _ (z .0)))
-    (λ z. pass _ _ _ _ (z .0) (⊎-elim (λ b. stop _ _ (not-nine-not-every k (drop k s) (head (drop k s)) b)) (λ w. absurd (good≢bad (sym (w .2)))) (refused-step _ _ (z .1))))
+    (λ z. pass _ _ _ _ (z .0) (stop _ _ (not-nine-not-every k (drop k s) (head (drop k s)) (refused-only _ _ (z .1)))))
     (refused-at _ _ _ _ (sym e)))
 
 -- one that passes them

@@ -1,7 +1,6 @@
 -- Checks 1 to 7, a header alone, and where its option run lies.
 use Prim.Native.Nat.{ℕ, _+_, _-_, _*_, _≤_, _<_}
 use mathlib.Core.Path.{_≡_, sym, ap, subst}
-use mathlib.Core.Logic.{⊎-elim}
 use mathlib.Core.List.{List, []}
 use native.Mathlib.Omega.{arith}
 use borrow.Author.Tests.{lt-ltb, le-ltb}
@@ -11,7 +10,7 @@ use Rattle.rules.specs.Bytes.{part}
 use Rattle.rules.specs.Options.{optionRunFrom}
 use Rattle.rules.specs.Message.{Head, head, payloadStart, checksOneToSix, optionRunLength}
 use Rattle.rules.specs.Reading.{header}
-use Rattle.rules.proofs.Outcomes.{pass, halt, step, stop, after, stop-before, came-after, passed, stepped, good-inj, good≢bad, refused-step}
+use Rattle.rules.proofs.Outcomes.{pass, halt, step, stop, after, stop-before, came-after, passed, stepped, good-inj, refused-only}
 use Rattle.rules.proofs.Run.{run-ends}
 use Rattle.rules.proofs.Passed.{Sound, sound}
 use Rattle.message.proofs.Checks.{short}
@@ -69,7 +68,7 @@ module _ (p : ℕ) (s : List ℕ) where
   -- where it is refused, checks 1 to 7 refuse it
   pub unread : {n q : ℕ} → bad n q ≡ headerHere p s → optionRunLength p s (head s) ≡ bad n q
   unfolding headerHere
-  unread e = ⊎-elim (λ z. z) (λ z. absurd (good≢bad (sym (z .2)))) (refused-step _ _ (sym e))
+  unread e = refused-only _ _ (sym e)
 
 -- where it is read, these are its numbers, and checks 1 to 7 pass
 pub record Headed (p : ℕ) (s : List ℕ) (h : Header) : Type 0 where

@@ -1,7 +1,6 @@
 -- Checks 8 to 10 and COUNT, the message at a place, and the loop over a recording.
 use Prim.Native.Nat.{ℕ, suc, _+_, _-_, _*_, _/_, _%_, _≤_, _<_}
 use mathlib.Core.Path.{_≡_, refl, sym, ap, subst, _∙_}
-use mathlib.Core.Logic.{⊎-elim}
 use mathlib.Core.Bool.{Bool, true, false}
 use mathlib.Core.List.{List, [], _∷_, _++_}
 use native.Mathlib.Nat.{add-zero}
@@ -17,7 +16,7 @@ use Rattle.rules.specs.Options.{countSaid, differs}
 use Rattle.rules.specs.Packages.{cut, packageOf, Piece}
 use Rattle.rules.specs.Message.{Head, head, payloadStart, payload, checksOneToSix, optionRunLength, checksEightAndNine, checksOneToNine, checksOneToTen, everyCheck, Message, recordOf, message, recording}
 use Rattle.rules.specs.Reading.{packagesOf, checkedRecording}
-use Rattle.rules.proofs.Outcomes.{pass, halt, pass-last, halt-last, after, step, stop, stepped, stop-before, good-inj, good≢bad, refused-step}
+use Rattle.rules.proofs.Outcomes.{pass, halt, pass-last, halt-last, after, step, stop, stepped, stop-before, good-inj, refused-only}
 use Rattle.rules.proofs.Passed.{passes}
 use Rattle.rules.proofs.Loops.{rest, Doing, doing-start, doing-next, doing-end, doing-bad}
 use Rattle.rules.proofs.Cut as Cut
@@ -47,7 +46,7 @@ any-part s a e h = go (ltb a e) refl
 
 uncut : (p : ℕ) (s : List ℕ) {m q : ℕ} → cutCount p s ≡ bad m q → cut p s ≡ bad m q
 unfolding cutCount
-uncut p s e = ⊎-elim (λ z. z) (λ z. absurd (good≢bad (sym (z .2)))) (refused-step _ _ e)
+uncut p s e = refused-only _ _ e
 
 -- checks 8 and 9: by the header's numbers, as the code has them, and by the payload's bytes
 module _ (p : ℕ) (h : Head) where
@@ -202,7 +201,7 @@ reading p s d e =
 
 no-record : (p : ℕ) (s : List ℕ) {n q : ℕ} → messageHere p s ≡ bad n q → message p s ≡ bad n q
 unfolding messageHere message
-no-record p s e = ⊎-elim (λ z. stop _ _ z) (λ z. absurd (good≢bad (sym (z .2)))) (refused-step _ _ e)
+no-record p s e = stop _ _ (refused-only _ _ e)
 
 packages-snoc : (l : List Message) (m : Message) → packagesOf (l ++ (m ∷ [])) ≡ packagesOf l + length (m .packages)
 unfolding packagesOf

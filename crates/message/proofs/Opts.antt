@@ -5,7 +5,7 @@ use mathlib.Core.Logic.{_⊎_, inl, inr, ⊎-elim}
 use mathlib.Core.Bool.{Bool, true, false, _&&_}
 use mathlib.Core.List.{List, [], _∷_}
 use mathlib.Core.Option.{Option, none, some}
-use native.Mathlib.Nat.{add-zero}
+use native.Mathlib.Nat.{add-zero, pos-of-ne-zero}
 use native.Mathlib.Omega.{arith}
 use borrow.Author.Tests.{eq-eqb, ne-eqb, eqb-true, eqb-false, leb-true, lt-ltb, le-ltb, le-leb, lt-leb}
 use lib.Dec.{leb, ltb, eqb}
@@ -133,11 +133,7 @@ takes o n e = go (eqb (at o 0) 0) refl (optionFits o) refl
         let z : _≡_ {A = ℕ} 0 1 = cc in absurd (omega arith)
     go false s true t =
         let f : Takes (optionSize o) ≡ Takes n = rw (s, t, optionHere) at e in
-        record { kind = pos (at o 0) (eqb-false _ _ s); fits = t; size = cc }
-      where
-        pos : (k : ℕ) → (k ≡ 0 → ⊥) → 0 < k
-        pos zero z = absurd (z refl)
-        pos (suc k) z = omega arith
+        record { kind = pos-of-ne-zero (eqb-false _ _ s); fits = t; size = cc }
     go false s false t =
         let f : Bad ≡ Takes n = rw (s, t, optionHere) at e in
         let z : _≡_ {A = ℕ} 0 1 = cc in absurd (omega arith)

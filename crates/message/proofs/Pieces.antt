@@ -13,7 +13,7 @@ use lib.Seq.{getD-take}
 use Rattle.rules.specs.Outcome.{Outcome, good, bad, LARGE, PACKAGE}
 use Rattle.rules.specs.Bytes.{at, half, word, pad}
 use Rattle.rules.specs.Packages.{packageFits, piece}
-use Rattle.rules.proofs.Outcomes.{pass, halt, step, stop, passed, stepped, good-inj}
+use Rattle.rules.proofs.Outcomes.{pass, halt, step, stop, passed, stepped, good-inj, some-inj}
 use Rattle.rules.proofs.Numbers.{half-take}
 use Rattle.rules.proofs.Cut.{fit}
 use Rattle.rules.proofs.Loops.{rest, Passing, passing-start, passing-next, passing-end, passing-bad}
@@ -188,9 +188,6 @@ pub record Shown (s : List ℕ) (i : ℕ) (d : PackageSpot) : Type 0 where
   pub taking : Taking (drop i s) size
   pub reads : piece i (drop i s) ≡ good (take size (drop i s), size)
   pub spot : packageSpot i (take size (drop i s)) size ≡ d
-
-some-inj : {A : Type 0} {a b : A} → some a ≡ some b → a ≡ b
-some-inj e = cc
 
 pub shown : (s : List ℕ) (i : ℕ) (d : PackageSpot) → packageAt s i ≡ good (some d) → Shown s i d
 unfolding packageAt

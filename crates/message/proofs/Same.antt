@@ -2,13 +2,12 @@
 use Prim.Native.Nat.{ℕ}
 use mathlib.Core.Path.{_≡_, refl, sym, ap, _∙_}
 use mathlib.Core.List.{List}
-use mathlib.Core.Option.{Option, none, some}
-use native.Mathlib.Omega.{arith}
+use mathlib.Core.Option.{Option, none}
 use denote.Ref.{RefT, now}
 use Rattle.rules.specs.Outcome.{Outcome, tells}
 use Rattle.rules.specs.Message.{Head}
 use Rattle.rules.specs.Claims.{TellsApart}
-use Rattle.rules.proofs.Outcomes.{good-inj, good≢bad}
+use Rattle.rules.proofs.Outcomes.{good-inj, good≢bad, some-inj, none≢some}
 use Rattle.refusal.proofs.Numbers.{refused-injective}
 use Rattle.message.specs.Answers.{PartOf, headOfHeader, toldHeader, noHead, headerNumbers, spotOfPackage, toldPackage, packageNumbers, spotOfMessage, toldMessage, noMessage, messageNumbers, toldCount, countNumbers, toldCheck, checkNumbers}
 use Rattle.rules.specs.Walk.{PackageSpot}
@@ -57,12 +56,6 @@ packageBack k = record { id = record { 0 = k .id }; length = k .size; status = k
 package-back : (k : Package) → packageBack (spotOfPackage k) ≡ k
 unfolding packageBack
 package-back k = refl
-
-some-inj : {A : Type 0} {a b : A} → some a ≡ some b → a ≡ b
-some-inj e = cc
-
-none≢some : {A : Type 0} {a : A} → _≡_ {A = Option A} none (some a) → ⊥
-none≢some e = let z : _≡_ {A = ℕ} 0 1 = cc in omega arith
 
 pub same-package : TellsApart toldPackage
 same-package (packageRead.Package k) (packageRead.Package l) e =

@@ -1,7 +1,6 @@
 -- Messages: how the released list and the copy grow, and what the two loops over a recording keep.
 use Prim.Native.Nat.{ℕ, _+_, _-_, _*_, _/_, _%_, _≤_, _<_}
 use mathlib.Core.Path.{_≡_, refl, sym, ap, ap₂, _∙_}
-use mathlib.Core.Logic.{⊎-elim}
 use mathlib.Core.Bool.{Bool, _||_}
 use mathlib.Core.List.{List, [], _∷_, _++_, map, append-nil}
 use native.Mathlib.Omega.{arith}
@@ -17,7 +16,7 @@ use Rattle.rules.specs.Message.{head, payloadStart, isSimulated, recordBits, ev
 use Rattle.rules.specs.Writer.{write}
 use Rattle.rules.specs.Sheet as rows
 use Rattle.rules.specs.Copy.{granted, Entry, grantedPackages, withEntryOf, released, copyMessage, packagesIn}
-use Rattle.rules.proofs.Outcomes.{pass, step, stop, passed, stepped, good-inj, good≢bad, refused-step}
+use Rattle.rules.proofs.Outcomes.{pass, step, stop, passed, stepped, good-inj, refused-only}
 use Rattle.rules.proofs.Cut as Cut
 use Rattle.rules.proofs.Passed.{Passed, passes}
 use Rattle.rules.proofs.Growing.{granted-alike, released-snoc}
@@ -80,7 +79,7 @@ module _ (recordingBytes : List ℕ) (k : ℕ) where
   unfolding messageAt messageHere message
   no-message l f e =
       let q = sym (pass _ _ _ _ (le-ltb 65536 (length recordingBytes) l) refl) ∙ sym e in
-      ⊎-elim (λ b. stop _ _ b) (λ w. absurd (good≢bad (sym (w .2)))) (refused-step _ _ q)
+      stop _ _ (refused-only _ _ q)
 
 -- what a grant depends on
 module _ (m m′ : messages.Message) (f : m .flags ≡ m′ .flags) (i : m .id ≡ m′ .id) (s : m .seconds ≡ m′ .seconds) (n : m .nanos ≡ m′ .nanos) where

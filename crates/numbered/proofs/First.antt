@@ -8,7 +8,7 @@ use borrow.Author.Tests.{ltb-false, le-ltb}
 use lib.Dec.{ltb}
 use lib.ListN.{length}
 use lib.Seq.{sets}
-use Rattle.rules.specs.Outcome.{Outcome, good, bad, _>>_, _>>=_, _∷>_, LARGE, ROOM}
+use Rattle.rules.specs.Outcome.{Outcome, good, bad, _>>=_, _∷>_, LARGE, ROOM}
 use Rattle.refusal.specs.Numbers.{IDS}
 use Rattle.rules.specs.Bytes.{join}
 use Rattle.rules.specs.Items.{items, All, all-nil, count}

@@ -1,7 +1,6 @@
 -- What a package and a message that were read say of the bytes where they stand.
 use Prim.Native.Nat.{ℕ, zero, suc, _+_, _-_, _≤_, _<_}
 use mathlib.Core.Path.{_≡_, refl, sym, ap, _∙_}
-use mathlib.Core.Logic.{⊎-elim}
 use mathlib.Core.Bool.{Bool, true, false}
 use mathlib.Core.List.{List, [], _∷_}
 use mathlib.Core.Option.{Option, none, some}
@@ -13,7 +12,7 @@ use borrow.Author.Tests.{lt-leb, not-false, le-ltb}
 use Rattle.rules.specs.Outcome.{Outcome, good, bad, _>>=_}
 use Rattle.rules.specs.Bytes.{at, half, word, pad, part}
 use Rattle.rules.specs.Packages.{piece, packageOf, pieceOf, Piece}
-use Rattle.rules.proofs.Outcomes.{pass, passed, stepped, good-inj, good≢bad, refused-step}
+use Rattle.rules.proofs.Outcomes.{pass, passed, stepped, good-inj, some-inj, none≢some, refused-only}
 use Rattle.rules.proofs.Cut.{Fit, fit, piece-of}
 use Rattle.rules.proofs.Pieces.{length-padded}
 use Rattle.refusal.specs.declared.Refusal.{Refusal}
@@ -50,12 +49,6 @@ pub record Found (run : List ℕ) (k : ℕ) (p : Package) : Type 0 where
   pub read : piece k (drop k run) ≡ good (c, n)
   pub spot : packageSpot k c n ≡ record { id = p .id .0; size = p .length; status = p .status; delta = p .delta; from = p .from; to = p .to; next = p .next }
 
-some-inj : {A : Type 0} {a b : A} → _≡_ {A = Option A} (some a) (some b) → a ≡ b
-some-inj e = cc
-
-none≢some : {A : Type 0} {a : A} → _≡_ {A = Option A} none (some a) → ⊥
-none≢some e = let z : _≡_ {A = ℕ} 0 1 = cc in omega arith
-
 module _ (run : List ℕ) (k : ℕ) where
   abbrev Rest : Bool → Outcome (Option PackageSpot)
   Rest b = elim b [
@@ -86,7 +79,7 @@ module _ (run : List ℕ) (k : ℕ) where
 
     -- a package that is refused
     pub no-piece : (f : Refusal) → toldPackage (P.Refused f) ≡ packageAt run k → piece k (drop k run) ≡ bad (numberOf (f .why)) (f .place)
-    no-piece f e = ⊎-elim (λ b. b) (λ w. absurd (good≢bad (sym (w .2)))) (refused-step _ _ (sym rest-is ∙ sym e))
+    no-piece f e = refused-only _ _ (sym rest-is ∙ sym e)
 
 take-drop-take : (a m n : ℕ) (l : List ℕ) → a + m ≤ n → take m (drop a (take n l)) ≡ take m (drop a l)
 take-drop-take zero m n l h = take-take m n l (omega arith)

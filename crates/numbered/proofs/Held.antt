@@ -8,7 +8,7 @@ use native.Mathlib.Nat.{zero-add}
 use native.Mathlib.Omega.{arith}
 use borrow.Author.Tests.{eqb-true, eqb-false, eq-eqb, ne-eqb}
 use lib.Dec.{eqb}
-use lib.ListN.{length, getD, take, drop, set, length-append, length-set, List·getD-append}
+use lib.ListN.{length, getD, take, drop, set, length-append, length-set, List·getD-append, length-map}
 use lib.Seq.{sets, sets-eq, length-sets, length-take-le, set-append-left, set-getD}
 use Rattle.rules.specs.Items.{count}
 use Rattle.rules.proofs.Growing.{map-append}
@@ -18,7 +18,6 @@ use Rattle.numbered.specs.Numbering.{Running, nextNumber, countedOn, idO
 use Rattle.numbered.specs.Parts.{Place, heldWith, numberAt, Ready}
 use Rattle.numbered.proofs.Seeking.{count-append, count-same, count-other, count-some}
 use Rattle.numbered.proofs.Numbers.{next-hit, next-miss, counted-hit, counted-miss, count-cons}
-use Rattle.numbered.proofs.States.{length-map}
 
 module _ (x : ℕ) where
   -- ---- an id that is held
@@ -51,7 +50,7 @@ module _ (x : ℕ) where
   counted-at (n ∷ ns) zero c l e = at-first n ns e
   counted-at (n ∷ ns) (suc place) c l e =
       at-later n ns place
-      (λ z. omega (arith, count-cons x (n .id) (map idOf ns), count-same x (n .id) z, count-some x (map idOf ns) place (omega (arith, length-map idOf ns)) e))
+      (λ z. omega (arith, count-cons x (n .id) (map idOf ns), count-same x (n .id) z, count-some x (map idOf ns) place (omega (arith, length-map ns idOf)) e))
       (counted-at ns place (omega (arith, count-cons x (n .id) (map idOf ns))) (omega arith) e)
 
   -- ---- a new id
@@ -123,7 +122,7 @@ pub record Holds (ids₀ next₀ ids next : List ℕ) (held : ℕ) (ns : List Ru
 module _ (ids₀ next₀ ids next : List ℕ) (held : ℕ) (ns : List Running) (inv : Holds ids₀ next₀ ids next held ns)
     (ids-few : length ns ≤ length ids₀) (next-few : length ns ≤ length next₀) where
   pub ids-held : take held ids ≡ map idOf ns
-  ids-held = rw (inv .ids-are, inv .held-is) (ap (λ (k : ℕ). take k (sets ids₀ 0 (map idOf ns))) (sym (length-map idOf ns)) ∙ take-sets ids₀ (map idOf ns) (omega (arith, length-map idOf ns)))
+  ids-held = rw (inv .ids-are, inv .held-is) (ap (λ (k : ℕ). take k (sets ids₀ 0 (map idOf ns))) (sym (length-map ns idOf)) ∙ take-sets ids₀ (map idOf ns) (omega (arith, length-map ns idOf)))
 
   pub ids-long : length ids ≡ length ids₀
   ids-long = ap length (inv .ids-are) ∙ length-sets ids₀ 0 (map idOf ns)
@@ -138,7 +137,7 @@ module _ (ids₀ next₀ ids next : List ℕ) (held : ℕ) (ns : List Running) (
       pub holds : Holds ids₀ next₀ (set ids place x) (set next place ((numberAt next place held + 1) % 2 ^ 32)) (heldWith held place) (countedOn x ns)
 
     held-length : length (take held ids) ≡ length ns
-    held-length = ap length ids-held ∙ length-map idOf ns
+    held-length = ap length ids-held ∙ length-map ns idOf
 
     at-most : place ≤ length ns
     at-most = omega (arith, spot .inside, held-length)
@@ -154,9 +153,9 @@ module _ (ids₀ next₀ ids next : List ℕ) (held : ℕ) (ns : List Running) (
         record {
           number = n ∙ sym (w .number);
           holds = record {
-            ids-are = rw (inv .ids-are, e) (set-behind ids₀ (map idOf ns) (length ns) x (length-map idOf ns)
+            ids-are = rw (inv .ids-are, e) (set-behind ids₀ (map idOf ns) (length ns) x (length-map ns idOf)
                 ∙ ap (sets ids₀ 0) (sym (map-append idOf ns (record { id = x; next = 1 } ∷ [])) ∙ ap (map idOf) (sym (w .behind))));
-            next-are = rw (one, inv .next-are, e) (set-behind next₀ (map nextOf ns) (length ns) 1 (length-map nextOf ns)
+            next-are = rw (one, inv .next-are, e) (set-behind next₀ (map nextOf ns) (length ns) 1 (length-map ns nextOf)
                 ∙ ap (sets next₀ 0) (sym (map-append nextOf ns (record { id = x; next = 1 } ∷ [])) ∙ ap (map nextOf) (sym (w .behind))));
             held-is = rw t (omega (arith, inv .held-is, ap length (w .behind), length-append ns (record { id = x; next = 1 } ∷ [])));
             once = once-counted x ns (inv .once);
@@ -169,16 +168,16 @@ module _ (ids₀ next₀ ids next : List ℕ) (held : ℕ) (ns : List Running) (
         let i : getD (map idOf ns) place 0 ≡ x = ap (λ (s : List ℕ). getD s place 0) (sym ids-held) ∙ spot .hit (omega (arith, held-length)) in
         let a = counted-at x ns place (inv .once x) l i in
         let t : eqb place held ≡ false = ne-eqb place held h in
-        let n : numberAt next place held ≡ nextNumber x ns = rw (t, inv .next-are) (getD-in-sets next₀ (map nextOf ns) place (omega (arith, length-map nextOf ns)) (omega (arith, length-map nextOf ns)) ∙ sym (a .number)) in
-        let same : set ids place x ≡ ids = ap (set ids place) (sym (ap (λ (s : List ℕ). getD s place 0) (inv .ids-are) ∙ getD-in-sets ids₀ (map idOf ns) place (omega (arith, length-map idOf ns)) (omega (arith, length-map idOf ns)) ∙ i)) ∙ set-getD ids place 0 in
+        let n : numberAt next place held ≡ nextNumber x ns = rw (t, inv .next-are) (getD-in-sets next₀ (map nextOf ns) place (omega (arith, length-map ns nextOf)) (omega (arith, length-map ns nextOf)) ∙ sym (a .number)) in
+        let same : set ids place x ≡ ids = ap (set ids place) (sym (ap (λ (s : List ℕ). getD s place 0) (inv .ids-are) ∙ getD-in-sets ids₀ (map idOf ns) place (omega (arith, length-map ns idOf)) (omega (arith, length-map ns idOf)) ∙ i)) ∙ set-getD ids place 0 in
         record {
           number = n;
           holds = record {
             ids-are = same ∙ inv .ids-are ∙ ap (sets ids₀ 0) (sym (a .ids));
             next-are = rw n (ap (λ (s : List ℕ). set s place ((nextNumber x ns + 1) % 2 ^ 32)) (inv .next-are)
-                ∙ set-in-sets next₀ (map nextOf ns) place ((nextNumber x ns + 1) % 2 ^ 32) (omega (arith, length-map nextOf ns)) (omega (arith, length-map nextOf ns))
+                ∙ set-in-sets next₀ (map nextOf ns) place ((nextNumber x ns + 1) % 2 ^ 32) (omega (arith, length-map ns nextOf)) (omega (arith, length-map ns nextOf))
                 ∙ ap (sets next₀ 0) (sym (a .next)));
-            held-is = rw t (inv .held-is ∙ sym (length-map idOf ns) ∙ ap length (sym (a .ids)) ∙ length-map idOf (countedOn x ns));
+            held-is = rw t (inv .held-is ∙ sym (length-map ns idOf) ∙ ap length (sym (a .ids)) ∙ length-map (countedOn x ns) idOf);
             once = once-counted x ns (inv .once);
           };
         }

@@ -7,7 +7,7 @@ use mathlib.Core.List.{List, [], _∷_, map}
 use native.Mathlib.Omega.{arith}
 use borrow.Author.Tests.{ltb-false, le-ltb, lt-ltb}
 use lib.Dec.{eqb, ltb}
-use lib.ListN.{length}
+use lib.ListN.{length, length-map}
 use Rattle.rules.specs.Outcome.{Outcome, good, bad, refuse, _>>_, ROOM}
 use Rattle.refusal.specs.Numbers.{IDS}
 use Rattle.rules.specs.Buffer.{fitted}
@@ -18,7 +18,6 @@ use Rattle.rules.proofs.Growing.{released-append}
 use Rattle.numbered.specs.Numbering.{Running, countedOn, numbersAfter, numberedBytes, State, runningIn, idOf}
 use Rattle.numbered.specs.Quota.{badState, Taken, takenFrom, messageOf, idsFit, delivering, reported, numberedCopy}
 use Rattle.numbered.proofs.Numbers.{after-append}
-use Rattle.numbered.proofs.States.{length-map}
 
 -- ---- how many ids there are
 
@@ -107,7 +106,7 @@ ids-same most rows ns ks (t ∷ ts) e =
     let a = numbersAfter ns (released rows (t .message ∷ [])) in
     let b = numbersAfter ks (released rows (t .message ∷ [])) in
     let same : map idOf a ≡ map idOf b = after-same ns ks (released rows (t .message ∷ [])) e in
-    let size : length a ≡ length b = sym (length-map idOf a) ∙ ap length same ∙ length-map idOf b in
+    let size : length a ≡ length b = sym (length-map a idOf) ∙ ap length same ∙ length-map b idOf in
     ap (λ (k : ℕ). refuse (ltb most k) IDS (t .place) >> idsFit most rows a ts) size
     ∙ ap (λ (o : Outcome (Unit {0})). refuse (ltb most (length b)) IDS (t .place) >> o) (ids-same most rows a b ts same)
 

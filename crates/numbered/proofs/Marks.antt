@@ -1,5 +1,5 @@
 -- Marks: bits that tell of each package whether it is granted, and of ids whether they may be held.
-use Prim.Native.Nat.{ℕ, zero, suc, _+_, _-_, _*_, _/_, _≤_, _<_}
+use Prim.Native.Nat.{ℕ, zero, suc, _+_, _*_, _/_, _≤_, _<_}
 use mathlib.Core.Path.{_≡_, refl, sym, ap, _∙_}
 use mathlib.Core.Bool.{Bool, true, false}
 use mathlib.Core.List.{List, [], _∷_, _++_, map, append-assoc}
@@ -7,13 +7,13 @@ use native.Mathlib.Numerals.{add-one}
 use native.Mathlib.Omega.{arith}
 use native.Mathlib.Nat.{add-zero, zero-add}
 use lib.Dec.{ltb, eqb}
-use lib.ListN.{length, getD, take, replicate, length-append}
+use lib.ListN.{length, getD, take, replicate, length-append, length-map}
 use lib.Seq.{take-suc}
 use borrow.Author.Tests.{ltb-true, ltb-false, eqb-false, eq-eqb}
-use Rattle.rules.specs.Items.{count, Fills, none, more}
+use Rattle.rules.specs.Items.{count, none}
 use Rattle.rules.specs.Packages as rules
 use Rattle.rules.specs.Outcome.{good}
-use Rattle.rules.specs.Packages.{Piece, cut, packageOf}
+use Rattle.rules.specs.Packages.{cut, packageOf}
 use Rattle.rules.proofs.Cut as Cut
 use Rattle.rules.specs.Message.{Message}
 use Rattle.rules.specs.Sheet as rows
@@ -21,9 +21,9 @@ use Rattle.rules.specs.Copy.{granted, grantedPackages}
 use Rattle.rules.proofs.Growing.{map-append}
 use Rattle.wire.specs.Bits.{bitAt, withBit, withBitIf}
 use Rattle.wire.proofs.Bits.{bit-small, bit-set, bit-kept, bit-zeros, length-with}
+use Rattle.message.proofs.Messages.{fill-least}
 use Rattle.numbered.specs.Parts.{kept, flagsOf, flagsIn, Tells, picked, Place, slotOf, Sees}
 use Rattle.numbered.proofs.Seeking.{count-append, count-other}
-use Rattle.numbered.proofs.States.{length-map}
 
 -- ---- flags in a list
 
@@ -76,20 +76,15 @@ flags-more rs m cs c = map-append (λ c. granted rs m (packageOf c)) cs (c ∷ [
 
 pub flags-long : (rs : List rows.Row) (m : Message) (cs : List (List ℕ)) → length (flagsOf rs m cs) ≡ length cs
 unfolding flagsOf
-flags-long rs m cs = length-map (λ c. granted rs m (packageOf c)) cs
+flags-long rs m cs = length-map cs (λ c. granted rs m (packageOf c))
 
 pub flags-joined : (rs : List rows.Row) (ms ks : List Message) → flagsIn rs (ms ++ ks) ≡ flagsIn rs ms ++ flagsIn rs ks
 unfolding flagsIn
 flags-joined rs [] ks = refl
 flags-joined rs (m ∷ ms) ks = rw (flags-joined rs ms ks) (sym (append-assoc (map (granted rs m) (m .packages)) (flagsIn rs ms) (flagsIn rs ks)))
 
--- a piece has 12 bytes at least
-fills-few : {cs : List (List ℕ)} {s : List ℕ} → Fills Piece cs s → 12 * length cs ≤ length s
-fills-few none = omega arith
-fills-few (more {c = c} {s = s} h r) = omega (arith, fills-few r, length-append c s, h .least, h .whole)
-
 pub pieces-few : (run : List ℕ) (cs : List (List ℕ)) → cut 0 run ≡ good cs → 12 * length cs ≤ length run
-pieces-few run cs e = fills-few (Cut.sound 0 0 run e)
+pieces-few run cs e = fill-least (Cut.sound 0 0 run e)
 
 -- ---- what is marked is what is granted
 

@@ -3,11 +3,11 @@ use Prim.Native.Nat.{ℕ, zero, suc, _+_, _-_, _*_, _≤_, _<_}
 use mathlib.Core.Path.{_≡_, refl, ap, sym, subst, _∙_}
 use mathlib.Core.List.{List, [], _∷_, _++_, map, append-assoc}
 use native.Mathlib.Omega.{arith}
-use lib.ListN.{length, take, drop, length-append, length-drop, length-take, take-append-drop}
+use lib.ListN.{length, take, drop, length-append, length-drop, length-take, take-append-drop, length-map}
 use lib.Seq.{take-add, drop-at, drop-nil, length-take-le}
 use Rattle.rules.specs.Outcome.{good}
-use Rattle.rules.specs.Items.{items, Fills, none, more}
-use Rattle.rules.specs.Packages.{Package, Piece, packageOf}
+use Rattle.rules.specs.Items.{items}
+use Rattle.rules.specs.Packages.{Package, packageOf}
 use Rattle.rules.specs.Sheet.{Row}
 use Rattle.rules.specs.Copy.{Entry, grantedPackages, withEntryOf, released}
 use Rattle.rules.specs.Message.{head, payloadStart, payload, Message, recordOf, message}
@@ -16,7 +16,8 @@ use Rattle.rules.proofs.Walk.{items-next}
 use Rattle.rules.proofs.Alone.{own}
 use Rattle.rules.proofs.Cut as Cut
 use Rattle.rules.proofs.Passed.{passes}
-use Rattle.numbered.proofs.States.{length-map}
+use Rattle.rules.proofs.Loops.{drop-pred}
+use Rattle.message.proofs.Messages.{fill-least}
 use Rattle.numbered.specs.Quota.{Taken, takenAt, firstItems, takenFrom, messageOf, bytesTaken}
 
 -- a message that is read at one place is read at any, with anything behind it
@@ -92,16 +93,12 @@ first-more q p s t ts l e f =
       all = λ h. omega (arith, f .all (omega arith), length-drop n s, o .most);
     }
 
-dropped : (n x : ℕ) (s : List ℕ) → 1 ≤ n → drop (n - 1) s ≡ drop n (x ∷ s)
-dropped zero x s h = absurd (omega arith)
-dropped (suc n) x s h = let z : suc n - 1 ≡ n = omega arith in rw z
-
 first-next : (q p x : ℕ) (s : List ℕ) (t : Taken) (n : ℕ) (ts : List Taken) → takenAt p (x ∷ s) ≡ good (t, n) → First q (drop (n - 1) s) ts → First (suc q) (x ∷ s) (t ∷ ts)
 first-next q p x s t n ts e f =
     let (g, a, b) = taken-inv p (x ∷ s) t n e in
     let o = own p (x ∷ s) (t .message) n g in
     first-more q p (x ∷ s) t ts (omega arith) (g ∙ ap (λ (k : ℕ). good (t .message, k)) (sym a))
-    (subst (λ (u : List ℕ). First q u ts) (dropped n x s (omega (arith, o .least)) ∙ ap (λ (k : ℕ). drop k (x ∷ s)) (sym a)) f)
+    (subst (λ (u : List ℕ). First q u ts) (sym (drop-pred n x s (omega (arith, o .least))) ∙ ap (λ (k : ℕ). drop k (x ∷ s)) (sym a)) f)
 
 first : (q k p : ℕ) (s : List ℕ) {ts : List Taken} → firstItems takenAt q k p s ≡ good ts → First q (drop k s) ts
 unfolding firstItems
@@ -123,17 +120,13 @@ first-taken input quota e = first quota 0 0 input e
 
 -- ---- a message that releases something has 36 bytes at least
 
-fills-light : {cs : List (List ℕ)} {s : List ℕ} → Fills Piece cs s → 12 * length cs ≤ length s
-fills-light none = omega arith
-fills-light (more {c = c} {cs = cs} {s = s} h r) = omega (arith, h .least, h .whole, length-append c s, fills-light r)
-
 message-heavy : (p : ℕ) (s : List ℕ) (m : Message) (n : ℕ) → message p s ≡ good (m, n) → 24 + 12 * length (m .packages) ≤ n
 unfolding message recordOf
 message-heavy p s m n e =
     let (r, q, z) = stepped _ _ e in
     let w = passes p s (head s) r q in
-    let f = fills-light (Cut.sound 0 (p + payloadStart (head s)) (payload s (head s)) (w .packages)) in
-    let l : 24 + 12 * length (map packageOf (r .1)) ≤ head s .size = omega (arith, f, w .header .least, length-map packageOf (r .1), length-take (head s .size - payloadStart (head s)) (drop (payloadStart (head s)) s)) in
+    let f = fill-least (Cut.sound 0 (p + payloadStart (head s)) (payload s (head s)) (w .packages)) in
+    let l : 24 + 12 * length (map packageOf (r .1)) ≤ head s .size = omega (arith, f, w .header .least, length-map (r .1) packageOf, length-take (head s .size - payloadStart (head s)) (drop (payloadStart (head s)) s)) in
     subst (λ (k : Message × ℕ). 24 + 12 * length (k .0 .packages) ≤ k .1) (good-inj z) l
 
 entry-light : (rows : List Row) (m : Message) (ps : List Package) (es : List Entry) → 36 * length (withEntryOf m (grantedPackages rows m ps) es) ≤ 24 + 12 * length ps + 36 * length es

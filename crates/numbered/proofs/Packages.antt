@@ -58,7 +58,7 @@ module _ (rs : List rows.Row) (m : Message) where
   kept-snoc cs c = rw (map-append packageOf cs (c ∷ [])) (granteds-snoc (map packageOf cs) (packageOf c))
 
 -- the bytes of packages, and of one more
-payload-more : (ps : List rules.Package) (p : rules.Package) → payloadOf (ps ++ (p ∷ [])) ≡ payloadOf ps ++ pieceOf p
+pub payload-more : (ps : List rules.Package) (p : rules.Package) → payloadOf (ps ++ (p ∷ [])) ≡ payloadOf ps ++ pieceOf p
 payload-more ps p = rw (map-append, join-append, append-nil)
 
 -- a record keeps flag bit 3
@@ -113,7 +113,7 @@ module _ (keep : List (List ℕ) → List rules.Package) (run : List ℕ) where
 abbrev pub NoPackage : PackageRead → Type 0
 NoPackage x = (tagOf the-type x ≡ 1) ⊎ (tagOf the-type x ≡ 2)
 
-no-package : (p : Package) → NoPackage (P.Package p) → ⊥
+pub no-package : (p : Package) → NoPackage (P.Package p) → ⊥
 no-package p o = ⊎-elim (λ a. let z : _≡_ {A = ℕ} 0 1 = a in omega (arith, z)) (λ a. let z : _≡_ {A = ℕ} 0 2 = a in omega (arith, z)) o
 
 -- ---- measuring

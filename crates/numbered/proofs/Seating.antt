@@ -1,12 +1,12 @@
 -- Counting the ids that are not known: what one message does, and what the loop keeps.
-use Prim.Native.Nat.{ℕ, _+_, _-_, _≤_, _<_}
+use Prim.Native.Nat.{ℕ, _+_, _≤_, _<_}
 use mathlib.Core.Path.{_≡_, refl, sym, ap, subst, _∙_}
 use mathlib.Core.Logic.{⊎-elim}
 use mathlib.Core.List.{List, [], _∷_, _++_, map, append-nil, append-assoc}
 use native.Mathlib.Numerals.{add-one}
 use native.Mathlib.Omega.{arith}
 use borrow.Author.Tests.{le-ltb, lt-ltb}
-use lib.ListN.{length, take, set, length-append}
+use lib.ListN.{length, take, set, length-append, length-map}
 use lib.Seq.{length-take-le, take-suc-set}
 use Rattle.rules.specs.Outcome.{good, bad}
 use Rattle.refusal.specs.Numbers.{IDS}
@@ -21,7 +21,6 @@ use Rattle.numbered.specs.Numbering.{Running, countedOn, numbersAfter, i
 use Rattle.numbered.specs.Quota.{Taken, messageOf, idsFit}
 use Rattle.numbered.specs.Parts.{Place, Single, named, Sat, Seated}
 use Rattle.numbered.proofs.Numbers.{after-append}
-use Rattle.numbered.proofs.States.{length-map}
 use Rattle.numbered.proofs.Seeking.{count-append, count-some}
 use Rattle.numbered.proofs.Held.{counted-new, counted-ids, once-counted}
 
@@ -48,7 +47,7 @@ module _ (known fresh : List ℕ) (seats : Seats) (room id k : ℕ) where
     -- it is one of those held
     sat-old : (ns : List Running) → map idOf ns ≡ known ++ take (seats .many) fresh → 1 ≤ count id (known ++ take (seats .many) fresh) → seats .many ≤ room → Sat known fresh fresh seats seats room id k ns
     sat-old ns e some l = ⊎-elim
-        (λ s. record { many = sym (sym (length-map idOf (countedOn id ns)) ∙ ap length (s ∙ e) ∙ held-long); ids = λ f. s ∙ e; over = λ o. absurd (omega arith) })
+        (λ s. record { many = sym (sym (length-map (countedOn id ns) idOf) ∙ ap length (s ∙ e) ∙ held-long); ids = λ f. s ∙ e; over = λ o. absurd (omega arith) })
         (λ s. absurd (omega (arith, s .0, ap (count id) e)))
         (counted-ids id ns)
 
@@ -67,16 +66,13 @@ module _ (known fresh : List ℕ) (seats : Seats) (room id k : ℕ) where
     module _ (packages place here : ℕ) (some : (packages ≡ 0 → ⊥)) (count-them : room ≤ 64) (under : seats .many ≤ room) (known-spot : Place known id place) (far : (place < length known → ⊥))
         (spot : Place (take (seats .many) fresh) id here) (new : (here < seats .many → ⊥)) (long : length fresh ≡ 64)
         (fresh′ : List ℕ) (same : length fresh′ ≡ length fresh) (put : seats .many < room → fresh′ ≡ set fresh (seats .many) id) where
-      after : Seats
-      after = record { many = seats .many + 1; over = k }
-
       miss : count id (known ++ take (seats .many) fresh) ≡ 0
       miss = omega (arith, count-append id known (take (seats .many) fresh), known-spot .miss (omega (arith, known-spot .inside)), spot .miss (omega (arith, spot .inside, fresh-long)))
 
       sat-new : (ns : List Running) → map idOf ns ≡ known ++ take (seats .many) fresh → Sat known fresh fresh′ seats (record { many = seats .many + 1; over = k }) room id k ns
       sat-new ns e =
           let behind : countedOn id ns ≡ ns ++ (record { id = id; next = 1 } ∷ []) = counted-new id ns (ap (count id) e ∙ miss) .behind in
-          let size : length ns ≡ length known + seats .many = sym (length-map idOf ns) ∙ ap length e ∙ held-long in
+          let size : length ns ≡ length known + seats .many = sym (length-map ns idOf) ∙ ap length e ∙ held-long in
           record {
             many = omega (arith, size, ap length behind, length-append ns (record { id = id; next = 1 } ∷ []));
             ids = λ f.
@@ -157,7 +153,7 @@ module _ (rs : List rows.Row) (known : List ℕ) (room : ℕ) where
         u = inv .under l
 
         long-so-far : length (later done) ≡ length known + seats .many
-        long-so-far = sym (length-map idOf (later done)) ∙ ap length (u .held) ∙ held-long known fresh seats room id (t .place) (omega arith)
+        long-so-far = sym (length-map (later done) idOf) ∙ ap length (u .held) ∙ held-long known fresh seats room id (t .place) (omega arith)
 
         -- the ids behind it: so many, and these
         pub record More : Type 0 where

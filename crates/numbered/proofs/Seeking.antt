@@ -1,6 +1,6 @@
 -- Searching for an id among ids that are all different.
 use Prim.Native.Nat.{ℕ, zero, suc, _+_, _-_, _≤_, _<_}
-use mathlib.Core.Path.{_≡_, refl, sym, ap, _∙_}
+use mathlib.Core.Path.{_≡_, refl, sym, _∙_}
 use mathlib.Core.Logic.{_⊎_, inl, inr, ⊎-elim}
 use mathlib.Core.Bool.{Bool, true, false}
 use mathlib.Core.List.{List, [], _∷_, _++_}
@@ -44,23 +44,10 @@ count-same x y e = ⊎-elim (λ w. w .1) (λ w. absurd (w .0 e)) (count-one x y)
 pub count-other : (x y : ℕ) → (x ≡ y → ⊥) → count x (y ∷ []) ≡ 0
 count-other x y h = ⊎-elim (λ w. absurd (h (w .0))) (λ w. w .1) (count-one x y)
 
-count-few : (x : ℕ) (l : List ℕ) → count x l ≤ length l
-unfolding count
-count-few x [] = omega arith
-count-few x (y ∷ l) = ⊎-elim (λ w. omega (arith, count-append x (y ∷ []) l, count-few x l)) (λ w. omega (arith, count-append x (y ∷ []) l, count-few x l)) (count-one x y)
-
 pub count-some : (x : ℕ) (l : List ℕ) (i : ℕ) → i < length l → getD l i 0 ≡ x → 1 ≤ count x l
 count-some x [] i l e = absurd (omega arith)
 count-some x (y ∷ m) zero l e = omega (arith, count-append x (y ∷ []) m, count-same x y (sym e))
 count-some x (y ∷ m) (suc i) l e = omega (arith, count-append x (y ∷ []) m, count-some x m i (omega arith) e)
-
--- what stands in a list once has one place
-one-place : (x : ℕ) (l : List ℕ) (i j : ℕ) → count x l ≤ 1 → i < length l → j < length l → getD l i 0 ≡ x → getD l j 0 ≡ x → i ≡ j
-one-place x [] i j c a b e f = absurd (omega arith)
-one-place x (y ∷ l) zero zero c a b e f = refl
-one-place x (y ∷ l) zero (suc j) c a b e f = absurd (omega (arith, count-append x (y ∷ []) l, count-same x y (sym e), count-some x l j (omega arith) f))
-one-place x (y ∷ l) (suc i) zero c a b e f = absurd (omega (arith, count-append x (y ∷ []) l, count-same x y (sym f), count-some x l i (omega arith) e))
-one-place x (y ∷ l) (suc i) (suc j) c a b e f = ap suc (one-place x l i j (omega (arith, count-append x (y ∷ []) l)) (omega arith) (omega arith) e f)
 
 -- ---- the search: found is how many ids stand from x on, or 0 where it was not met among the first i
 

@@ -39,10 +39,6 @@ unfolding beside
 beside-maps [] = refl
 beside-maps (n ∷ ns) = ap (λ (l : List Running). n ∷ l) (beside-maps ns)
 
-pub length-map : {A B : Type 0} (f : A → B) (l : List A) → length (map f l) ≡ length l
-length-map f [] = refl
-length-map f (a ∷ l) = ap suc (length-map f l)
-
 -- ---- the first places of a list
 
 pub sets-same : (n : ℕ) (l : List ℕ) → n ≤ length l → sets l 0 (take n l) ≡ l

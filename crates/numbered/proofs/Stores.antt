@@ -11,19 +11,15 @@ use lib.Dec.{eqb}
 use lib.ListN.{length, getD, take, drop, set, replicate, length-drop, length-replicate, replicate-append-replicate}
 use lib.Seq.{sets, set-set, set-comm, take-suc, length-take-le}
 use Rattle.rules.specs.Bytes.{put16, put32, part}
-use Rattle.rules.proofs.Loops.{sets-sets}
+use Rattle.rules.proofs.Loops.{sets-sets, set-before}
 use Rattle.message.specs.declared.Header.{Header}
 use Rattle.message.specs.declared.Package.{Package}
 use Rattle.numbered.specs.Parts.{headBytes, pieceAs, Placed}
 
--- a store before a run of stores can be made behind it
-set-sets : (ys b : List ℕ) (i j x : ℕ) → i < j → set (sets b j ys) i x ≡ sets (set b i x) j ys
-set-sets [] b i j x l = refl
-set-sets (y ∷ ys) b i j x l = set-sets ys (set b j y) i (suc j) x (omega arith) ∙ ap (λ (c : List ℕ). sets c (suc j) ys) (set-comm b j i y x (λ e. omega arith))
-
+-- a run of stores before another can be made behind it
 pub sets-before : (xs ys b : List ℕ) (i : ℕ) → sets (sets b (i + length xs) ys) i xs ≡ sets b i (xs ++ ys)
 sets-before [] ys b i = rw add-zero
-sets-before (x ∷ xs) ys b i = rw (add-suc, ← suc-add) (ap (λ (c : List ℕ). sets c (suc i) xs) (set-sets ys b i (suc i + length xs) x (omega arith)) ∙ sets-before xs ys (set b i x) (suc i))
+sets-before (x ∷ xs) ys b i = rw (add-suc, ← suc-add) (ap (λ (c : List ℕ). sets c (suc i) xs) (set-before ys b (suc i + length xs) i x (omega arith)) ∙ sets-before xs ys (set b i x) (suc i))
 
 -- a store is lost under a later run of stores that goes over it
 set-lost : (xs b : List ℕ) (i j y : ℕ) → i ≤ j → j < i + length xs → sets (set b j y) i xs ≡ sets b i xs

@@ -5,7 +5,7 @@ use mathlib.Core.Bool.{Bool, true, false}
 use mathlib.Core.List.{List, [], _∷_, _++_, map}
 use native.Mathlib.Omega.{arith}
 use lib.Dec.{leb, ltb, eqb}
-use lib.ListN.{length, take, drop, length-append}
+use lib.ListN.{length, take, drop, length-append, length-map}
 use borrow.Author.Tests.{le-ltb, lt-ltb, ltb-true, ltb-false, leb-true, leb-false}
 use Rattle.rules.specs.Outcome.{good, bad}
 use Rattle.rules.specs.Message as messages
@@ -37,7 +37,6 @@ use Rattle.numbered.proofs.Taking.{Taking, taking-start, taking-end, ta
 use Rattle.numbered.proofs.Entries.{Met, met, no-message, it, order, inside, behind, run-length, cut-is, it-is, it-passes, ps, id-is, flags-grown, grown, grown-one, totals-grown}
 use Rattle.numbered.proofs.Marks.{flags-long, pieces-few}
 use Rattle.numbered.proofs.Messages.{few-released}
-use Rattle.numbered.proofs.States.{length-map}
 use Rattle.numbered.proofs.Ids.{after-length, ids-good}
 use Rattle.numbered.proofs.Seeking.{count-append}
 use Rattle.numbered.proofs.Seating.{named-ids, Seating, seating-start, seating-fits, seating-over, More, more-none, more-one, still-over, more-seated}
@@ -135,7 +134,7 @@ module _ (rs : List rows.Row) (input : List ℕ) (quota : ℕ) (known : List ℕ
       few-entries : 1820 ≤ room → idsFit (length known + room) rs (named known) (inv .done) ≡ good tt
       few-entries l =
           let a = after-length (named known) (released rs (map messageOf (inv .done))) in
-          let n : length (named known) ≡ length known = sym (length-map idOf (named known)) ∙ ap length (named-ids known) in
+          let n : length (named known) ≡ length known = sym (length-map (named known) idOf) ∙ ap length (named-ids known) in
           ids-good (length known + room) rs (named known) (inv .done) (omega (arith, a .most, n, few-released rs input quota short all))
 
       progress-is : progress (length (inv .done)) (bytesTaken (inv .done)) (totals (released rs (map messageOf (inv .done)))) ≡ progress handled k t

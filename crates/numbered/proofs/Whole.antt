@@ -8,15 +8,15 @@ use native.Mathlib.Nat.{zero-add}
 use native.Mathlib.Omega.{arith}
 use borrow.Author.Tests.{ltb-false, le-ltb, eqb-true, leb-true, leb-false, eq-eqb, ne-eqb, le-leb, lt-leb}
 use lib.Dec.{leb, ltb, eqb}
-use lib.ListN.{length, take, replicate, length-append, length-take, length-replicate}
+use lib.ListN.{length, take, replicate, length-append, length-take, length-replicate, length-map}
 use lib.Seq.{sets, length-take-le}
-use Rattle.rules.specs.Outcome.{Outcome, good, bad, _>>_}
+use Rattle.rules.specs.Outcome.{Outcome, good, bad}
 use Rattle.rules.specs.Items.{items, count}
 use Rattle.rules.specs.Message.{Message, message}
 use Rattle.rules.specs.Sheet as rows
 use Rattle.rules.specs.Copy.{Entry, released}
 use Rattle.rules.proofs.Loops.{sets-sets}
-use Rattle.rules.proofs.Outcomes.{pass, halt, step, stop, passed, came-after, stepped, good-inj, good≢bad, refused-step, refused-at, stop-before}
+use Rattle.rules.proofs.Outcomes.{pass, halt, step, stop, passed, came-after, stepped, good-inj, good≢bad, refused-step, refused-at, stop-before, refused-checks}
 use Rattle.refusal.specs.declared.Refusal.{Refusal}
 use Rattle.refusal.specs.declared.Why.the-variants.{Room, Ids}
 use Rattle.refusal.specs.Numbers.{numberOf}
@@ -28,7 +28,7 @@ use Rattle.numbered.specs.Quota.{badIds, Taken, takenFrom, messageOf, by
 use Rattle.numbered.specs.Parts.{named, flagsIn, Tells, Marked, Single, Roomy, Wrote, knownOf, roomOf, Most, refusedIds}
 use Rattle.numbered.specs.Told.{totals, progress, measured, toldMeasure, MarkedBy, report, stateOf, told}
 use Rattle.numbered.proofs.Messages.{First, first-taken, few-released}
-use Rattle.numbered.proofs.States.{beside-ids, beside-length, length-map, sets-same, good-few, good-single}
+use Rattle.numbered.proofs.States.{beside-ids, beside-length, sets-same, good-few, good-single}
 use Rattle.numbered.proofs.Twice.{twice-once}
 use Rattle.numbered.proofs.Ids.{ids-few, ids-good, after-same, ids-same, after-length, refused-room, copy-done}
 use Rattle.numbered.proofs.Seating.{named-ids}
@@ -104,12 +104,6 @@ most-is places held = go (eqb held 0) refl (leb 1820 places) refl
     go false e false f = let (a, b) = shorter-least places 64 in record { inside = a; wide = λ l. absurd (omega arith); small = omega arith }
 
 -- ---- every answer
-
--- what is refused before a value is refused by the checks before it
-in-front : {A : Type 0} (o : Outcome (Unit {0})) (x : A) {n p : ℕ} → (o >> good x) ≡ bad n p → o ≡ bad n p
-unfolding _>>_
-in-front (good tt) x e = absurd (good≢bad (sym e))
-in-front (bad m q) x e = cc
 
 module _ (input sheetBytes : List ℕ) (quota : ℕ) (ids next : List ℕ) (held : ℕ) (buffer : List ℕ) (most : ℕ) (w : Most (shorter (length ids) (length next)) held most) where
   abbrev state : State
@@ -283,7 +277,7 @@ module _ (input sheetBytes : List ℕ) (quota : ℕ) (ids next : List ℕ) (held
     -- messages that are refused
     bad-outcome : (alone : Bool) → refusedIds alone most ids held ≡ false → (n p : ℕ) → bad n p ≡ measured rs input quota (take (knownOf alone held) ids) (roomOf alone most held) → outcome alone ≡ bad n p
     unfolding measured measuring delivering
-    bad-outcome alone g n p e = ⊎-elim (λ l. over alone g (l .0) (l .1) (l .2)) (λ l. ⊎-elim (λ b. refuses alone g (l .0) b) (λ a. crowds alone g (l .0) (a .0) (a .1) (in-front _ _ (a .2))) (refused-step _ _ (l .1))) (refused-at _ _ _ _ (sym e))
+    bad-outcome alone g n p e = ⊎-elim (λ l. over alone g (l .0) (l .1) (l .2)) (λ l. ⊎-elim (λ b. refuses alone g (l .0) b) (λ a. crowds alone g (l .0) (a .0) (a .1) (refused-checks _ _ (a .2))) (refused-step _ _ (l .1))) (refused-at _ _ _ _ (sym e))
       where
         over : (alone : Bool) → refusedIds alone most ids held ≡ false → ltb 65536 (length input) ≡ true → 12 ≡ n → 65536 ≡ p → outcome alone ≡ bad n p
         over true g l a b = step _ _ valid (halt _ _ _ _ l) ∙ rw (a, b)
@@ -367,7 +361,7 @@ module _ (input sheetBytes : List ℕ) (quota : ℕ) (ids next : List ℕ) (held
               bytes = λ ms q. ap (λ (x : List Message). sets buffer 0 (numberedBytes (runningIn state) (released rs x))) (good-inj (sym (part-read rs p good-ids e) ∙ q));
               ids-after = stored-behind ∙ ap (sets ids 0) (sym ids-are);
               next-after = refl;
-              held-after = omega (arith, length-map idOf after-it, ap length ids-are, length-append (take held ids) (take many fresh), ids-long good-ids, length-take-le many fresh few);
+              held-after = omega (arith, length-map after-it idOf, ap length ids-are, length-append (take held ids) (take many fresh), ids-long good-ids, length-take-le many fresh few);
             }),
           )
 

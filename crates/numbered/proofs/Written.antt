@@ -17,7 +17,7 @@ use Rattle.rules.specs.Sheet as rows
 use Rattle.rules.specs.Copy.{Entry, withEntryOf, released}
 use Rattle.rules.proofs.Outcomes.{stop, passed, good-inj, good≢bad}
 use Rattle.rules.proofs.Growing.{released-append}
-use Rattle.rules.proofs.Loops.{Doing, doing-start, doing-end, doing-bad, sets-sets, _++>_}
+use Rattle.rules.proofs.Loops.{Doing, doing-start, doing-end, doing-bad, sets-sets, done-part}
 use Rattle.refusal.specs.declared.Refusal.{Refusal}
 use Rattle.message.specs.declared.Message.{Message}
 use Rattle.message.specs.declared.Header.{Header}
@@ -36,12 +36,6 @@ use Rattle.numbered.proofs.States.{beside-ids, beside-next, beside-leng
 use Rattle.numbered.proofs.Ids.{after-length}
 use Rattle.numbered.proofs.Held.{Holds, ids-held, ids-long, next-long, counted-new, counted-ids, Settled, settled}
 use Rattle.numbered.proofs.Entries.{entryBytes, Met, no-message, it, order, inside, behind, run-length, cut-is, ps, flags-grown, grown, bytes-grown, after-grown, one-more, entry-length, payload-least}
-
--- what is done is the front of all
-front : {A : Type 0} (done l : List A) (o : Outcome (List A)) → good l ≡ (done ++> o) → (m : List A) × (l ≡ done ++ m)
-unfolding _++>_
-front done l (good m) e = (m, good-inj e)
-front done l (bad n p) e = absurd (good≢bad (sym e))
 
 -- a message with this front: how many packages it has is not looked at
 abbrev whole : ℕ → Header → Message
@@ -118,8 +112,8 @@ module _ (rs : List rows.Row) (recordingBytes ids₀ next₀ : List ℕ) (held�
     -- the numbers so far have room
     few : (done : List messages.Message) (k : ℕ) → Doing message recordingBytes done k → length (numbersAfter ns₀ (released rs done)) ≤ length (numbersAfter ns₀ (released rs (room .messages)))
     few done k doing =
-        let (m, e) = front done (room .messages) _ (sym (room .read) ∙ doing) in
-        rw (e, released-append rs done m, after-append ns₀ (released rs done) (released rs m)) (after-length (numbersAfter ns₀ (released rs done)) (released rs m) .least)
+        let (m, e) = done-part done _ (sym doing ∙ room .read) in
+        rw (← e, released-append rs done m, after-append ns₀ (released rs done) (released rs m)) (after-length (numbersAfter ns₀ (released rs done)) (released rs m) .least)
 
     module _ (after ids next seen : List ℕ) (reached : Reached) (k passed : ℕ) (inv : Writing after ids next seen reached k passed) where
       abbrev es : List Entry
@@ -186,10 +180,10 @@ module _ (rs : List rows.Row) (recordingBytes ids₀ next₀ : List ℕ) (held�
           -- the flags of its packages stand behind those of the messages before
           shows : Shows rs (messageBy (m .header)) marks passed (g .r .1)
           shows =
-              let (rest, a) = front done′ (room .messages) _ (sym (room .read) ∙ doing′) in
+              let (rest, a) = done-part done′ _ (sym doing′ ∙ room .read) in
               let fs = flagsOf rs (messageBy (m .header)) (g .r .1) in
               let b : flagsIn rs (room .messages) ≡ flagsIn rs (inv .done) ++ (fs ++ flagsIn rs rest) =
-              ap (flagsIn rs) a ∙ flags-joined rs done′ rest ∙ ap (λ (l : List Bool). l ++ flagsIn rs rest) (flags-grown recordingBytes k m g rs (inv .done)) ∙ append-assoc (flagsIn rs (inv .done)) fs (flagsIn rs rest) in
+              ap (flagsIn rs) (sym a) ∙ flags-joined rs done′ rest ∙ ap (λ (l : List Bool). l ++ flagsIn rs rest) (flags-grown recordingBytes k m g rs (inv .done)) ∙ append-assoc (flagsIn rs (inv .done)) fs (flagsIn rs rest) in
               shows-part rs (messageBy (m .header)) marks passed (flagsIn rs (inv .done)) (flagsIn rs rest) (g .r .1) (inv .many) (rw b at (marked .tells (room .messages) (room .read)))
 
           module _ (out : List ℕ) (r : Kept) (z : StoredRun (picked marks passed) run after out (reached .to + 24) r) where

@@ -1,7 +1,6 @@
 -- The whole purge: a law for each of its answers.
 use Prim.Native.Nat.{ℕ, _+_, _-_, _≤_}
 use mathlib.Core.Path.{_≡_, refl, sym, ap, _∙_}
-use mathlib.Core.Logic.{⊎-elim}
 use mathlib.Core.List.{List, _++_, append-nil}
 use native.Mathlib.Omega.{arith}
 use borrow.Author.Tests.{ltb-false}
@@ -12,7 +11,7 @@ use Rattle.rules.specs.Message as messages
 use Rattle.rules.specs.Message.{recording}
 use Rattle.rules.specs.Reading.{checkedRecording}
 use Rattle.rules.specs.Sheet as rows
-use Rattle.rules.proofs.Outcomes.{step, stop, passed, stepped, good≢bad, refused-step}
+use Rattle.rules.proofs.Outcomes.{step, stop, passed, stepped, refused-only}
 use Rattle.refusal.specs.declared.Refusal.{Refusal}
 use Rattle.refusal.specs.Numbers.{numberOf, refused}
 use Rattle.compose.specs.declared.Written.the-variants as written
@@ -29,7 +28,7 @@ module _ (buffer sheetBytes : List ℕ) (rs : List rows.Row) (valid : rows.sheet
   pub recording-refused : (f : Refusal) → refused f ≡ checkedRecording buffer → told (written.Refused f) buffer ≡ purge buffer sheetBytes
   unfolding checkedRecording purge keptOf purged
   recording-refused f e =
-      let b : recording buffer ≡ bad (numberOf (f .why)) (f .place) = ⊎-elim (λ b. b) (λ w. absurd (good≢bad (sym (w .2)))) (refused-step _ _ (sym e)) in
+      let b : recording buffer ≡ bad (numberOf (f .why)) (f .place) = refused-only _ _ (sym e) in
       sym (ap (purged buffer) (step _ _ valid (stop _ _ b)))
 
   module _ (n : ℕ × ℕ) (e : good n ≡ checkedRecording buffer) where

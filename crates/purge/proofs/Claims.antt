@@ -20,12 +20,13 @@ use Rattle.rules.proofs.Interference.{delivered-is, copy-passes}
 use Rattle.rules.proofs.Nevers.{never-released}
 use Rattle.rules.proofs.Measured.{measured-roomless}
 use Rattle.rules.proofs.RoundTrip.{read-valid, read-written}
+use Rattle.rules.proofs.Growing.{all-append}
 use Rattle.purge.specs.Purge.{withPackages, keptRecords, keptBytes, keptOf, purged, purge, inUse}
 use Rattle.purge.specs.Worked.{Worked}
 use Rattle.purge.specs.Claims.{RefusedUnchanged, RefusedAsMeasured, NeverTooLong, FreedZero, SamePurges, DifferentPurges, LeftRead, AppendedTo, PurgedTwice, NothingGrantedLeft, NoneGranted, KeptExactly, OptionsKept, CountIsRight, CountsRight, NumbersKept, LeftClean, PartsRecording, NoRows}
 use Rattle.purge.proofs.Counts.{options-set}
 use Rattle.purge.proofs.Refusals.{alike}
-use Rattle.purge.proofs.Keeping.{kept-append, kept-taken, kept-stays, records-append, bytes-append, all-append, nothing-granted, kept-again, kept-same, ungranted, had-none, keeps-some, loses}
+use Rattle.purge.proofs.Keeping.{kept-append, kept-taken, kept-stays, records-append, bytes-append, nothing-granted, kept-again, kept-same, ungranted, had-none, keeps-some, loses}
 use Rattle.purge.proofs.Worked.{worked-out}
 use Rattle.purge.proofs.Parting.{records-parted}
 use Rattle.purge.proofs.Whole.{whole, records-valid, fine, purge-is, in-use, long, read-all, read-again, told}

@@ -17,10 +17,11 @@ use Rattle.rules.specs.Items.{count}
 use Rattle.rules.specs.Options.{lengthAllowed, optionSize, optionFits, isSecond, optionRunFrom, countSaidFrom, countSaid}
 use Rattle.rules.proofs.Outcomes.{both}
 use Rattle.rules.proofs.Numbers.{bytes-nil, bytes-cons, bytes-head, bytes-tail, bytes-put32, bytes-take, bytes-drop, word-put32, put32-word}
-use Rattle.rules.proofs.Counts.{none≢some, said-here, said-next}
+use Rattle.rules.proofs.Outcomes.{none≢some}
+use Rattle.rules.proofs.Counts.{said-here, said-next}
 use Rattle.rules.proofs.Run.{run-go, Going, run-inv, Bounds, bounds, Same, same}
 use Rattle.purge.specs.Purge.{packageCount, behindKind, countSet}
-use Rattle.rules.proofs.Loops.{running, drop-sets}
+use Rattle.rules.proofs.Loops.{running, drop-sets, drop-pred}
 use Rattle.purge.specs.Parts.{countAt}
 use Rattle.purge.proofs.Stores.{take-more}
 use Rattle.purge.specs.Claims.{CountsSet, none, counted, other}
@@ -276,10 +277,6 @@ unfolding countSaidFrom
 said-set l none c e = absurd (none≢some e)
 said-set {n} l (counted {o′ = t} w) c e = let z : word (packageCount ∷ 6 ∷ put32 n t) 2 ≡ c = cc in sym z ∙ count-said n t l
 said-set l (other a {o′ = t} h z w) c e = said-set l w c (sym (other-said a t h z) ∙ e)
-
-drop-pred : (k x : ℕ) (o : List ℕ) → 1 ≤ k → drop k (x ∷ o) ≡ drop (k - 1) o
-drop-pred zero x o h = absurd (omega arith)
-drop-pred (suc k) x o h = let e : suc k - 1 ≡ k = omega arith in rw e
 
 take-pred : (k x : ℕ) (o : List ℕ) → 1 ≤ k → x ∷ take (k - 1) o ≡ take k (x ∷ o)
 take-pred zero x o h = absurd (omega arith)

@@ -97,10 +97,6 @@ pub bytes-append : (ks ls : List Message) → keptBytes (ks ++ ls) ≡ keptBytes
 unfolding keptBytes
 bytes-append ks ls = rw (map-append, join-append)
 
-pub all-append : {A : Type 0} {P : A → Type 0} {l m : List A} → All P l → All P m → All P (l ++ m)
-all-append all-nil b = b
-all-append (all-cons p a) b = all-cons p (all-append a b)
-
 -- packages are fewer than the bytes that they take
 few-pieces : (ks : List Package) → length ks ≤ length (join (map pieceOf ks))
 unfolding pieceOf

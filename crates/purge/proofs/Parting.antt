@@ -1,13 +1,13 @@
 -- The copy and the purge part a recording, package by package.
-use Prim.Native.Nat.{ℕ, _+_, _*_, _/_, _%_}
+use Prim.Native.Nat.{ℕ, _+_}
 use mathlib.Core.Path.{_≡_, refl, sym, ap, subst, _∙_}
 use mathlib.Core.Bool.{Bool, true, false}
 use mathlib.Core.List.{List, [], _∷_, _++_, map, append-nil, append-assoc}
-use native.Mathlib.Omega.{arith}
 use Rattle.rules.specs.Packages.{Package}
 use Rattle.rules.specs.Message.{Message}
 use Rattle.rules.specs.Sheet.{Row}
 use Rattle.rules.specs.Copy.{granted, grantedPackages, listedBits, withEntryOf, released, copyMessage, copyMessages}
+use Rattle.rules.proofs.Turns.{listed-kept}
 use Rattle.purge.specs.Purge.{keptPackages, losesLast, withPackages, keptRecord, keptRecords}
 use Rattle.purge.specs.Parted.{InMessage, inMessage, packagesIn, Parted, ended, first, second}
 
@@ -43,17 +43,11 @@ kept-in m ks = go (m .packages) ks
     go (p ∷ ps) (l ∷ ls) = append-nil (map (inMessage m) (l ∷ ls))
 
 -- and so has the copy's message for its entry
-same-bits : (f : ℕ) → listedBits (64 + listedBits f) ≡ listedBits f
-same-bits f =
-    let a : (64 + f / 2 % 8 * 2) / 2 ≡ 32 + f / 2 % 8 = omega arith in
-    let b : (32 + f / 2 % 8) % 8 ≡ f / 2 % 8 = omega arith in
-    rw (a, b)
-
 abbrev withFlags : Message → Package → ℕ → InMessage
 withFlags m p f = record { id = m .id; seconds = m .seconds; nanos = m .nanos; flags = f; held = p }
 
 copied-in : (m : Message) (ps : List Package) → map (inMessage m) ps ≡ map (λ (p : Package). withFlags m p (listedBits (64 + listedBits (m .flags)))) ps
-copied-in m ps = ap (λ (f : ℕ). map (λ (p : Package). withFlags m p f) ps) (sym (same-bits (m .flags)))
+copied-in m ps = ap (λ (f : ℕ). map (λ (p : Package). withFlags m p f) ps) (sym (listed-kept (m .flags)))
 
 module _ (rs : List Row) where
   -- whatever ids the copy has delivered before

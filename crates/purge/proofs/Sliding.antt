@@ -1,7 +1,6 @@
 -- The packages of one message slide down: what the loop keeps. The buffer is what stood before, then the packages kept so far, then a gap, then the packages that are not read yet.
 use Prim.Native.Nat.{ℕ, _+_, _-_, _≤_, _<_}
 use mathlib.Core.Path.{_≡_, refl, sym, ap, subst, _∙_}
-use mathlib.Core.Logic.{⊎-elim}
 use mathlib.Core.Bool.{Bool, true, false}
 use mathlib.Core.List.{List, [], _∷_, _++_, map, append-nil, append-assoc}
 use native.Mathlib.Nat.{add-zero}
@@ -20,7 +19,7 @@ use Rattle.rules.specs.Walk.{PackageSpot, packageSpot, packageAt}
 use Rattle.rules.proofs.Outcomes.{good-inj, good≢bad}
 use Rattle.rules.proofs.Numbers.{bytes-take, bytes-drop}
 use Rattle.rules.proofs.Cleaned.{piece-clean}
-use Rattle.rules.proofs.Growing.{join-append, map-append}
+use Rattle.rules.proofs.Growing.{map-append}
 use Rattle.rules.proofs.Loops.{Passing, passing-start, passing-next, passing-end, passing-bad, drop-sets}
 use Rattle.refusal.specs.Numbers.{numberOf}
 use Rattle.message.specs.declared.Header.{Header}
@@ -31,7 +30,7 @@ use Rattle.message.specs.Answers.{toldPackage}
 use Rattle.sheet.specs.Table.{rowsIn, nearOf, nearGrants}
 use Rattle.numbered.specs.Parts.{messageBy, payloadOf}
 use Rattle.numbered.proofs.Found.{Taken, taken, Found, found, no-end, no-piece, is-piece, piece-size, next-is, least, on, still, piece-length}
-use Rattle.numbered.proofs.Packages.{NoPackage, near-asked}
+use Rattle.numbered.proofs.Packages.{NoPackage, near-asked, payload-more, no-package}
 use Rattle.purge.specs.declared.Left.{Left}
 use Rattle.purge.specs.Purge.{keptPackages}
 use Rattle.purge.specs.Parts.{keptPieces, Standing, KeptUnless, Slid}
@@ -48,9 +47,6 @@ module _ (rs : List rows.Row) (m : Message) (cs : List (List ℕ)) (c : List ℕ
   unfolding keptPieces
   piece-stays e = rw (map-append packageOf cs (c ∷ []), kept-append rs m (map packageOf cs) (packageOf c ∷ []), kept-stays rs m (packageOf c) e)
 
-payload-more : (ps : List rules.Package) (p : rules.Package) → payloadOf (ps ++ (p ∷ [])) ≡ payloadOf ps ++ pieceOf p
-payload-more ps p = rw (map-append, join-append, append-nil)
-
 -- i bytes of the packages from place `from` on have been read
 pub record Sliding (rs : List rows.Row) (m : Message) (from to : ℕ) (s₀ s : List ℕ) (l : Left) (k : ℕ) : Type 0 where
   pub i : ℕ
@@ -64,9 +60,6 @@ pub record Sliding (rs : List rows.Row) (m : Message) (from to : ℕ) (s₀ s : 
   pub few : l .packages ≤ i
   pub packages : l .packages ≡ length (keptPieces rs m done)
   pub used : take (to + l .bytes) s ≡ take to s₀ ++ payloadOf (keptPieces rs m done)
-
-no-package : (p : Package) → NoPackage (P.Package p) → ⊥
-no-package p o = ⊎-elim (λ a. let z : _≡_ {A = ℕ} 0 1 = a in omega (arith, z)) (λ a. let z : _≡_ {A = ℕ} 0 2 = a in omega (arith, z)) o
 
 -- where a package that was found stands, and what its piece is
 module _ (s : List ℕ) (k : ℕ) (p : Package) (f : Found s k p) where

@@ -5,7 +5,7 @@ use mathlib.Core.List.{List}
 use Rattle.rules.specs.Outcome.{Outcome, good, bad, _>>=_}
 use Rattle.rules.specs.Buffer.{fitted}
 use Rattle.rules.specs.Claims.{TellsApart}
-use Rattle.rules.proofs.Outcomes.{good-inj, good≢bad}
+use Rattle.rules.proofs.Outcomes.{good-inj, good≢bad, none≢some}
 use Rattle.rules.proofs.Kept.{careful-stored, writes, roomless}
 use Rattle.refusal.proofs.Numbers.{refused-injective}
 use Rattle.radio.specs.Radio.{storedAt, tlvPut, tlvWriter, runWritten, radioWriter}
@@ -20,7 +20,7 @@ use Rattle.radio.proofs.Rows as rows
 use Rattle.radio.proofs.Tlvs as tlvs
 use Rattle.radio.proofs.Messages as messages
 use Rattle.radio.proofs.Places as places
-use Rattle.radio.proofs.Places.{none≢some, shown-inj}
+use Rattle.radio.proofs.Places.{shown-inj}
 use Rattle.radio.proofs.Examples.{worked-out}
 
 pub tlv-written-read : TlvWrittenRead

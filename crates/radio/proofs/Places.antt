@@ -11,11 +11,11 @@ use borrow.Author.Tests.{lt-ltb, le-ltb, le-leb, lt-leb, ltb-true, ltb-false, eq
 use lib.Arith.{lt-of-le-ne}
 use lib.Dec.{ltb, eqb}
 use lib.ListN.{length, drop}
-use Rattle.rules.specs.Outcome.{Outcome, good, bad, refuse, _>>_, LARGE}
+use Rattle.rules.specs.Outcome.{Outcome, good, bad, refuse, LARGE}
 use Rattle.refusal.specs.Numbers.{RADIO}
 use Rattle.rules.specs.Bytes.{at, half}
 use Rattle.rules.specs.Items.{items}
-use Rattle.rules.proofs.Outcomes.{pass, halt, halt-last, step, stop, stop-before, after, refused-pass, refused-step, refused-front, good-inj, good≢bad, bad-inj}
+use Rattle.rules.proofs.Outcomes.{pass, halt, halt-last, step, stop, stop-before, after, refused-pass, refused-front, good-inj, good≢bad, bad-inj, none≢some, refused-only, refused-after}
 use Rattle.rules.proofs.Numbers.{half-put16}
 use Rattle.radio.specs.Tlv.{tlvSize, opportunityOf, heartbeatOf, metricOf, reportOf, typed, keepsRules, tlv}
 use Rattle.radio.specs.Radio.{Radio, headBytes, checkedHead, radio, tlvAt, Steps, ends, shows, StepsTo, here, on, runWritten}
@@ -25,9 +25,6 @@ use Rattle.radio.specs.declared.Tlv.{Tlv}
 use Rattle.radio.specs.declared.Tlv.the-variants.{TxOp, Heartbeat, LinkMetric, QueueReport}
 use Rattle.radio.proofs.Tlvs.{tlv-kept}
 use Rattle.radio.proofs.Messages.{least, Asked, head-passes, inside, step-shows, steps-show-all}
-
-pub none≢some : {A : Type 0} {a : A} → _≡_ {A = Option A} none (some a) → ⊥
-none≢some e = let z : _≡_ {A = ℕ} 0 1 = cc in omega arith
 
 pub shown-inj : {A : Type 0} {a b : A} → _≡_ {A = Outcome (Option A)} (good (some a)) (good (some b)) → a ≡ b
 shown-inj e = cc
@@ -119,13 +116,6 @@ unfolding refuse
 refused-last true m r e = bad-inj e
 refused-last false m r e = absurd (good≢bad (sym e))
 
-refused-before : {A : Type 0} (c : Outcome (Unit {0})) (o : Outcome A) {n p : ℕ} → (c >> o) ≡ bad n p → (c ≡ bad n p) ⊎ ((c ≡ good tt) × (o ≡ bad n p))
-unfolding _>>_
-refused-before (good tt) o e = inr (refl, e)
-refused-before (bad m r) o {n} {p} e =
-    let w : (m ≡ n) × (r ≡ p) = bad-inj e in
-    inl (rw (w .0, w .1))
-
 head-place : (s : List ℕ) {n p : ℕ} → checkedHead s ≡ bad n p → (RADIO ≡ n) × (0 ≡ p)
 unfolding checkedHead
 head-place s e =
@@ -146,11 +136,8 @@ module _ (s : List ℕ) (l : length s ≤ 65536) where
       ⊎-elim (λ w. absurd (let k = ltb-true 65536 (length s) (w .0) in omega arith))
       (λ f.
       ⊎-elim (bad-head n p)
-      (λ o.
-      ⊎-elim (λ i. let w = stops s l 0 10 (drop 10 s) refl (omega arith) i in (w .number, inr (o .0, w .steps, w .refused)))
-      (λ v. absurd (good≢bad (sym (v .2))))
-      (refused-step _ _ (o .1)))
-      (refused-before _ _ f))
+      (λ o. let w = stops s l 0 10 (drop 10 s) refl (omega arith) (refused-only _ _ (o .1)) in (w .number, inr (o .0, w .steps, w .refused)))
+      (refused-after _ _ f))
       (refused-pass _ _ _ _ e)
 
   at-end : (p : ℕ) → length s ≤ p → tlvAt s p ≡ good none
@@ -220,7 +207,7 @@ module _ (h : Head) (run s : List ℕ) (behind : drop 10 s ≡ run) (long : leng
       unfolding runWritten
       written-forth e =
           ⊎-elim (λ w. absurd (let k = ltb-true 65536 (10 + length run) (w .0) in omega (arith, long)))
-          (λ f. ⊎-elim (λ w. absurd (some (eqb-true (length run) 0 (w .0)))) (λ g. ⊎-elim (λ i. i) (λ v. absurd (good≢bad (sym (v .2)))) (refused-step _ _ g)) (refused-pass _ _ _ _ f))
+          (λ f. ⊎-elim (λ w. absurd (some (eqb-true (length run) 0 (w .0)))) (λ g. refused-only _ _ g) (refused-pass _ _ _ _ f))
           (refused-pass _ _ _ _ e)
 
       written-back : {n p : ℕ} → items tlv 0 10 run ≡ bad n p → runWritten h run ≡ bad n p
@@ -233,8 +220,8 @@ module _ (h : Head) (run s : List ℕ) (behind : drop 10 s ≡ run) (long : leng
           ⊎-elim (λ w. absurd (let k = ltb-true 65536 (length s) (w .0) in omega arith))
           (λ f.
           ⊎-elim (λ b. absurd (good≢bad (sym b ∙ head-passes s asked)))
-          (λ o. ⊎-elim (λ i. i) (λ v. absurd (good≢bad (sym (v .2)))) (refused-step _ _ (o .1)))
-          (refused-before _ _ f))
+          (λ o. refused-only _ _ (o .1))
+          (refused-after _ _ f))
           (refused-pass _ _ _ _ e)
 
       read-back : {n p : ℕ} → items tlv 0 10 (drop 10 s) ≡ bad n p → radio s ≡ bad n p

@@ -1,7 +1,6 @@
 -- What the code that writes stores, and the loops over a run of TLVs: laws over plain numbers and lists.
 use Prim.Native.Nat.{ℕ, _+_, _-_, _*_, _/_, _%_, _≤_, _<_}
 use mathlib.Core.Path.{_≡_, refl, sym, ap, subst, _∙_}
-use mathlib.Core.Logic.{⊎-elim}
 use mathlib.Core.Bool.{true, false, not}
 use mathlib.Core.List.{List, [], _∷_, _++_, append-nil, append-assoc}
 use native.Mathlib.Nat.{add-assoc, zero-add}
@@ -14,7 +13,7 @@ use Rattle.rules.specs.Outcome.{Outcome, good, bad, LARGE, ROOM}
 use Rattle.refusal.specs.Numbers.{RADIO}
 use Rattle.rules.specs.Bytes.{half, put16, put32}
 use Rattle.rules.specs.Buffer.{stored, fitted}
-use Rattle.rules.proofs.Outcomes.{pass, halt, halt-last, step, stop, after, stop-before, pass-last, stepped, refused-step, good-inj, good≢bad}
+use Rattle.rules.proofs.Outcomes.{pass, halt, halt-last, step, stop, after, stop-before, pass-last, stepped, good-inj, good≢bad, refused-only}
 use Rattle.rules.proofs.Loops.{rest, Passing, passing-start, passing-next, passing-end, passing-bad, sets-sets}
 use Rattle.compose.proofs.Stores.{sets-part}
 use Rattle.compose.proofs.Answered.{answer}
@@ -202,8 +201,7 @@ module _ (s : List ℕ) where
           pub read-refused : {n p : ℕ} → bad n p ≡ tlvCount (take (length s - 10) (drop 10 s)) → Refuses n p
           unfolding tlvCount radio
           read-refused c =
-              let r = refused-step _ _ (sym (rw to-run at c)) in
-              unread (pass _ _ _ _ (le-ltb 65536 (length s) small) (after _ _ head-good (stop _ _ (⊎-elim (λ g. g) (λ w. absurd (good≢bad (sym (w .2)))) r))))
+              unread (pass _ _ _ _ (le-ltb 65536 (length s) small) (after _ _ head-good (stop _ _ (refused-only _ _ (sym (rw to-run at c))))))
 
           pub read-good : {n : ℕ} {h : Head} → h ≡ headOf s → good n ≡ tlvCount (take (length s - 10) (drop 10 s)) → good (h, n) ≡ radioRead s
           unfolding tlvCount radio radioRead
@@ -311,7 +309,7 @@ module _ (h : Head) (run b : List ℕ) where
       write-refused e =
           refusesWith
           (pass _ _ _ _ (le-ltb 65536 (10 + length run) (omega arith))
-          (pass _ _ _ _ (ne-eqb (length run) 0 d) (stop _ _ (⊎-elim (λ g. g) (λ w. absurd (good≢bad (sym (w .2)))) (refused-step _ _ (sym e))))))
+          (pass _ _ _ _ (ne-eqb (length run) 0 d) (stop _ _ (refused-only _ _ (sym e)))))
 
       pub write-checked : {n : ℕ} → good n ≡ tlvCount run → Checked run
       unfolding tlvCount

@@ -4,8 +4,9 @@ use mathlib.Core.List.{[], _∷_}
 use Prim.Native.Nat.{ℕ, _-_}
 use native.Mathlib.Omega.{arith}
 use lib.ListN.{getD}
-use Rattle.rules.specs.Outcome.{Outcome, bad}
+use Rattle.rules.specs.Outcome.{Outcome}
 use Rattle.rules.specs.Claims.{TellsApart}
+use Rattle.rules.proofs.Outcomes.{bad-inj}
 use Rattle.refusal.specs.Numbers.{numberOf, refused}
 use Rattle.refusal.specs.declared.Why.{Why}
 use Rattle.refusal.specs.declared.Why.the-variants.{Short, Version, Kind, Length, Cut, Time, Option, Fragment, Standard, Package, Row, Large, Room, Marker, Blocks, Text, Count, Capture, Radio, Ids, Gap, Holes}
@@ -48,9 +49,6 @@ unfolding whyOf
 number-positive w e =
     let z : _≡_ {A = ℕ} 1 0 = ap numberOf (ap whyOf (sym e) ∙ back w) ∙ e in
     omega arith
-
-bad-inj : {A : Type 0} {m n p q : ℕ} → _≡_ {A = Outcome A} (bad m p) (bad n q) → (m ≡ n) × (p ≡ q)
-bad-inj e = (cc, cc)
 
 -- the same refusal, by its number and its place
 pub same-refusal : (r q : Refusal) → numberOf (r .why) ≡ numberOf (q .why) → r .place ≡ q .place → r ≡ q

@@ -61,7 +61,7 @@ any-filled (more {c = c} {s = s} h r) = go c (omega (arith, h .least, h .whole))
     go (x ∷ l) q = refl
 
 -- the flags of a message that passes are the record's and flag 7
-flags-back : (f a : ℕ) → f < 256 → f / 16 % 4 ≡ 0 → f / 128 % 2 ≡ a → f / 64 % 2 * 64 + f % 16 + a * 128 ≡ f
+pub flags-back : (f a : ℕ) → f < 256 → f / 16 % 4 ≡ 0 → f / 128 % 2 ≡ a → f / 64 % 2 * 64 + f % 16 + a * 128 ≡ f
 flags-back f a l g h =
     let i : f / 16 / 4 ≡ f / 64 = div-div-eq-div-mul f 16 4 in
     let j : f / 64 / 2 ≡ f / 128 = div-div-eq-div-mul f 64 2 in

@@ -9,12 +9,7 @@ use borrow.Author.Tests.{eqb-true, eqb-false, eq-eqb, ne-eqb, not-false, not-tru
 use lib.ListN.{length, drop}
 use Rattle.rules.specs.Bytes.{at, word}
 use Rattle.rules.specs.Options.{optionSize, countSaidFrom, countSaid, differs}
-
-pub some-inj : {a b : ℕ} → _≡_ {A = Option ℕ} (some a) (some b) → a ≡ b
-some-inj e = cc
-
-pub none≢some : {a : ℕ} → _≡_ {A = Option ℕ} none (some a) → ⊥
-none≢some e = let z : _≡_ {A = ℕ} 0 1 = cc in omega arith
+use Rattle.rules.proofs.Outcomes.{some-inj, none≢some}
 
 -- a number that does not differ is the one that is said
 pub agreed : (o : Option ℕ) (n : ℕ) → differs o n ≡ false → (c : ℕ) → o ≡ some c → c ≡ n

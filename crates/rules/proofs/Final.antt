@@ -1,18 +1,18 @@
 -- A refusal other than SHORT and CUT is final: more bytes behind the message change nothing of it.
-use Prim.Native.Nat.{ℕ, _+_, _-_, _%_, _/_, _≤_, _<_}
-use mathlib.Core.Path.{_≡_, refl, ap, sym, subst, _∙_}
+use Prim.Native.Nat.{ℕ, _+_, _-_, _%_, _≤_}
+use mathlib.Core.Path.{_≡_, refl, sym, subst, _∙_}
 use mathlib.Core.Logic.{⊎-elim}
-use mathlib.Core.Bool.{Bool, true, false, not, _||_}
+use mathlib.Core.Bool.{Bool, true, false}
 use mathlib.Core.List.{List, [], _++_}
 use native.Mathlib.Omega.{arith}
-use borrow.Author.Tests.{le-ltb, ltb-false, lt-ltb, ltb-true, eq-eqb}
-use lib.Dec.{ltb, eqb}
+use borrow.Author.Tests.{le-ltb, ltb-false, eq-eqb}
+use lib.Dec.{ltb}
 use lib.ListN.{length, drop, length-append, length-drop, length-take}
-use Rattle.rules.specs.Outcome.{Outcome, good, bad, refuse, _>>_, _>>=_, SHORT, CUT, COUNT}
-use Rattle.rules.specs.Bytes.{part, oneIfAny}
-use Rattle.rules.specs.Options.{optionRunFrom, countSaid, differs}
-use Rattle.rules.specs.Message.{Head, head, payloadStart, payload, checksOneToSix, optionRunLength, checksEightAndNine, checksOneToNine, checksOneToTen, everyCheck, Message, message}
-use Rattle.rules.proofs.Outcomes.{pass, halt, pass-last, after, came-after, step, stepped, good-inj, stop, stop-before, refused-step, good≢bad}
+use Rattle.rules.specs.Outcome.{Outcome, good, bad, refuse, _>>_, SHORT, CUT, COUNT}
+use Rattle.rules.specs.Bytes.{part}
+use Rattle.rules.specs.Options.{countSaid, differs}
+use Rattle.rules.specs.Message.{Head, head, payloadStart, checksOneToSix, optionRunLength, checksEightAndNine, checksOneToNine, checksOneToTen, everyCheck, Message, message}
+use Rattle.rules.proofs.Outcomes.{pass, halt, pass-last, after, came-after, step, stepped, good-inj, stop, stop-before, refused-step, refused-only}
 use Rattle.rules.proofs.Run.{run-ends}
 use Rattle.rules.proofs.Passed.{Sound, sound}
 use Rattle.rules.proofs.Alone.{part-append, head-append}
@@ -154,7 +154,4 @@ long-enough p s n q not-short e = go (ltb (length s) 24) refl
 
 pub final : (p : ℕ) (s t : List ℕ) (n q : ℕ) → (n ≡ SHORT → ⊥) → (n ≡ CUT → ⊥) → message p s ≡ bad n q → message p (s ++ t) ≡ bad n q
 unfolding message
-final p s t n q not-short not-cut e = ⊎-elim
-    (λ b. rw (head-append s t (long-enough p s n q not-short e)) (stop _ _ (every p s t n q not-short not-cut (head s) b)))
-    (λ a. absurd (good≢bad (sym (a .2))))
-    (refused-step _ _ e)
+final p s t n q not-short not-cut e = rw (head-append s t (long-enough p s n q not-short e)) (stop _ _ (every p s t n q not-short not-cut (head s) (refused-only _ _ e)))

@@ -2,7 +2,7 @@
 use Prim.Native.Nat.{ℕ, zero, suc, _+_, _*_, _/_, _%_}
 use mathlib.Core.Path.{_≡_, refl, ap, ap₂, _∙_}
 use mathlib.Core.Bool.{Bool, true, false}
-use mathlib.Core.List.{List, [], _∷_, _++_, map, append-nil, append-assoc}
+use mathlib.Core.List.{List, [], _∷_, _++_, map, append-assoc}
 use native.Mathlib.Nat.{zero-add, add-zero}
 use native.Mathlib.Omega.{arith}
 use lib.Dec.{eqb}
@@ -10,10 +10,9 @@ use lib.ListN.{replicate}
 use Rattle.rules.specs.Bytes.{join}
 use Rattle.rules.specs.Packages.{Package}
 use Rattle.rules.specs.Message.{Message}
-use Rattle.rules.specs.Writer.{write}
 use Rattle.rules.specs.Sheet.{Row}
-use Rattle.rules.specs.Items.{count}
-use Rattle.rules.specs.Copy.{granted, Entry, grantedPackages, withEntryOf, released, copyMessage, copyMessages, copyBytes}
+use Rattle.rules.specs.Items.{count, All, all-nil, all-cons}
+use Rattle.rules.specs.Copy.{granted, Entry, grantedPackages, withEntryOf, released, copyMessage, copyMessages}
 
 -- the message id of an entry
 abbrev pub idOf : Entry → ℕ
@@ -27,6 +26,10 @@ join-append (c ∷ cs) ds = rw (join-append cs ds, append-assoc)
 pub map-append : {A B : Type 0} (f : A → B) (l m : List A) → map f (l ++ m) ≡ map f l ++ map f m
 map-append f [] m = refl
 map-append f (a ∷ l) m = ap (λ (r : List _). f a ∷ r) (map-append f l m)
+
+pub all-append : {A : Type 0} {P : A → Type 0} {l m : List A} → All P l → All P m → All P (l ++ m)
+all-append all-nil b = b
+all-append (all-cons h a) b = all-cons h (all-append a b)
 
 pub map-replicate : {A B : Type 0} (f : A → B) (n : ℕ) (a : A) → map f (replicate n a) ≡ replicate n (f a)
 map-replicate f zero a = refl
@@ -111,7 +114,3 @@ unfolding copyMessages count
 copyMessages-snoc es e =
     let c : count (e .id) (ids es []) ≡ count (e .id) (map idOf es) = count-ids (e .id) es [] ∙ add-zero _ in
     rw (copyMessages-append [] es (e ∷ []), c)
-
-pub copyBytes-snoc : (es : List Entry) (e : Entry) → copyBytes (es ++ (e ∷ [])) ≡ copyBytes es ++ write (copyMessage (count (e .id) (map idOf es)) e)
-unfolding copyBytes
-copyBytes-snoc es e = rw (copyMessages-snoc es e, map-append, join-append, append-nil)

@@ -6,7 +6,7 @@ use native.Mathlib.Omega.{arith}
 use borrow.Author.Tests.{le-ltb, ltb-false}
 use lib.ListN.{length, length-append}
 use lib.Seq.{sets}
-use Rattle.rules.specs.Outcome.{Outcome, good, _>>=_, ROOM}
+use Rattle.rules.specs.Outcome.{Outcome, good, _>>=_}
 use Rattle.rules.specs.Bytes.{Bytes, join}
 use Rattle.rules.specs.Items.{items, All, all-nil, all-cons, count}
 use Rattle.rules.specs.Message.{Message, message, recording}
@@ -17,7 +17,7 @@ use Rattle.rules.specs.Valid.{Valid}
 use Rattle.rules.specs.Copy.{Entry, listedBits, grantedPackages, withEntryOf, released, copyMessage, copyMessages, copyBytes, packagesIn, releasedOf, reported, measurement, roomFor, filled, answered, copy, delivered}
 use Rattle.rules.specs.Claims.{Plain}
 use Rattle.rules.proofs.Outcomes.{pass, step, passed, stepped, good-inj}
-use Rattle.rules.proofs.Measured.{room-for, no-room-for}
+use Rattle.rules.proofs.Measured.{room-for}
 use Rattle.rules.proofs.Kept.{take-sets}
 use Rattle.rules.proofs.RoundTrip.{all-written-read}
 use Rattle.rules.proofs.Again.{length-write}
@@ -49,12 +49,6 @@ module _ (recordingBytes sheetBytes : List ℕ) (es : List Entry) (list : releas
       → copy recordingBytes sheetBytes buffer ≡ (record { number = 0; place = 0; bytes = length (copyBytes es); messages = length es; packages = packagesIn es }, sets buffer 0 (copyBytes es))
   unfolding copy answered reported filled
   copy-is buffer l = ap (answered buffer) (step _ _ list (room-for buffer es l))
-
-  -- without, the answer is ROOM with the bytes needed, and the buffer stays
-  pub copy-roomless : (buffer : List ℕ) → length buffer < length (copyBytes es)
-      → copy recordingBytes sheetBytes buffer ≡ (record { number = ROOM; place = length (copyBytes es); bytes = 0; messages = 0; packages = 0 }, buffer)
-  unfolding copy answered reported filled
-  copy-roomless buffer l = ap (answered buffer) (step _ _ list (no-room-for buffer es l))
 
   pub delivered-is : (buffer : List ℕ) → length (copyBytes es) ≤ length buffer → delivered (copy recordingBytes sheetBytes buffer) ≡ copyBytes es
   delivered-is buffer l = ap delivered (copy-is buffer l) ∙ take-sets buffer (copyBytes es) l

@@ -35,5 +35,6 @@ pub mod Sequence
 pub mod Bursts
 pub mod Writer
 pub mod Loops
+pub mod Shifted
 pub mod Growing
 pub mod Walks

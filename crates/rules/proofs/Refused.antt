@@ -15,7 +15,7 @@ use Rattle.rules.specs.Options.{countSaid, differs}
 use Rattle.rules.specs.Packages.{cut, packageOf, Piece}
 use Rattle.rules.specs.Message.{head, payloadStart, payload, checksOneToNine, checksOneToTen, everyCheck, Message, recordOf, message}
 use Rattle.rules.specs.Claims.{SaysOther}
-use Rattle.rules.proofs.Outcomes.{pass, halt, step, stop, stepped, good-inj, good≢bad, bad-inj, refused-pass, refused-step}
+use Rattle.rules.proofs.Outcomes.{pass, halt, step, stop, stepped, good-inj, good≢bad, bad-inj, refused-pass, refused-step, refused-only}
 use Rattle.rules.proofs.Nevers.{never-ten}
 use Rattle.rules.proofs.Counts.{agreed, told-other, other-told}
 use Rattle.rules.proofs.Passed.{passes}
@@ -63,11 +63,9 @@ module _ (p : ℕ) (s : List ℕ) (n : ℕ) (b : checksOneToNine p s (head s) �
 count-only : (p : ℕ) (s : List ℕ) (q : ℕ) → message p s ≡ bad COUNT q → (q ≡ p) × ((r : ℕ × List (List ℕ)) × (checksOneToTen p s (head s) ≡ good r) × SaysOther (part 24 (24 + r .0) s) (length (r .1)))
 unfolding message everyCheck
 count-only p s q e =
-    ⊎-elim (λ e.
     ⊎-elim (λ m. absurd (never-ten COUNT (λ n l h e. omega arith) p s (head s) .given q m)) (λ w.
     ⊎-elim (λ m. (sym (m .2), (w .0, w .1, told-other (countSaid (part 24 (24 + w .0 .0) s)) (length (w .0 .1)) (m .0)))) (λ g. absurd (good≢bad (sym g))) (refused-pass _ _ _ _ (w .2)))
-    (refused-step _ _ e))
-    (λ v. absurd (good≢bad (sym (v .2)))) (refused-step _ _ e)
+    (refused-step _ _ (refused-only _ _ e))
 
 pub count-read : (p : ℕ) (s : List ℕ) (q : ℕ) → (message p s ≡ bad COUNT q) ↔ ((q ≡ p) × ((r : ℕ × List (List ℕ)) × (checksOneToTen p s (head s) ≡ good r) × SaysOther (part 24 (24 + r .0) s) (length (r .1))))
 count-read p s q = (

@@ -1,6 +1,6 @@
 -- The randomizer's sequence repeats after 255 bits, so its bytes repeat after 255 bytes, and one table holds a period. Randomizing twice gives the bytes back.
 -- A window is the latest eight of the bits so far. It alone tells the next window, so a window that comes again brings all that follows it again.
-use Prim.Native.Nat.{ℕ, zero, suc, _+_, _-_, _*_, _/_, _%_, _<_}
+use Prim.Native.Nat.{ℕ, zero, suc, _+_, _*_, _/_, _%_, _<_}
 use mathlib.Core.Path.{_≡_, refl, sym, ap, ap₂, _∙_}
 use mathlib.Core.List.{List, [], _∷_, _++_}
 use native.Mathlib.Nat.{add-zero, zero-add, add-suc, suc-add}

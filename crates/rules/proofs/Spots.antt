@@ -1,7 +1,6 @@
 -- What is told of a message in a recording is told of its record.
 use Prim.Native.Nat.{ℕ, _≤_}
 use mathlib.Core.Path.{_≡_, refl, sym, subst}
-use mathlib.Core.Logic.{⊎-elim}
 use mathlib.Core.List.{List}
 use borrow.Author.Tests.{le-ltb}
 use lib.ListN.{length, drop, length-map}
@@ -10,7 +9,7 @@ use Rattle.rules.specs.Packages.{packageOf}
 use Rattle.rules.specs.Message.{head, everyCheck, Message, recordOf, message}
 use Rattle.rules.specs.Reading.{MessageSpot, messageSpot, messageAt}
 use Rattle.rules.specs.Claims.{OfRecord}
-use Rattle.rules.proofs.Outcomes.{pass, step, stop, passed, stepped, refused-step, good-inj, good≢bad}
+use Rattle.rules.proofs.Outcomes.{pass, step, stop, passed, stepped, good-inj, refused-only}
 
 of-checked : (s : List ℕ) (p : ℕ) (r : ℕ × List (List ℕ)) → everyCheck p (drop p s) (head (drop p s)) ≡ good r → OfRecord s p (messageSpot p (head (drop p s)) r)
 unfolding messageSpot recordOf message
@@ -35,7 +34,7 @@ spot-read s p l m n e =
 pub spot-refused : (s : List ℕ) (p : ℕ) → length s ≤ 65536 → (n q : ℕ) → message p (drop p s) ≡ bad n q → messageAt s p ≡ bad n q
 unfolding message messageAt
 spot-refused s p l n q e =
-    ⊎-elim (λ b. pass _ _ _ _ (le-ltb 65536 (length s) l) (stop _ _ b)) (λ w. absurd (good≢bad (sym (w .2)))) (refused-step _ _ e)
+    pass _ _ _ _ (le-ltb 65536 (length s) l) (stop _ _ (refused-only _ _ e))
 
 pub of-record : (s : List ℕ) (p : ℕ) (k : MessageSpot) → messageAt s p ≡ good k → OfRecord s p k
 unfolding messageAt

@@ -33,7 +33,7 @@ bit-kept f =
     let c : f / 2 % 8 / 4 ≡ f / 2 / 4 % 2 = omega arith in
     rw (b, c, a) (omega arith)
 
-listed-kept : (f : ℕ) → listedBits (64 + listedBits f) ≡ listedBits f
+pub listed-kept : (f : ℕ) → listedBits (64 + listedBits f) ≡ listedBits f
 listed-kept f =
     let a : (64 + f / 2 % 8 * 2) / 2 ≡ 32 + f / 2 % 8 = omega arith in
     let b : (32 + f / 2 % 8) % 8 ≡ f / 2 % 8 = omega arith in

@@ -16,10 +16,10 @@ use Rattle.rules.specs.Bytes.{at, word}
 use Rattle.rules.specs.Items.{Fills, none, more, count}
 use Rattle.rules.specs.Options.{lengthAllowed, optionSize, optionFits, isSecond, optionRunFrom, countSaidFrom, countSaid, kindOf, WholeOption}
 use Rattle.rules.specs.Claims.{WholeRun, Some, here, there}
-use Rattle.rules.proofs.Outcomes.{both, good≢bad, refused-at}
+use Rattle.rules.proofs.Outcomes.{both, good≢bad, refused-at, some-inj, none≢some}
 use Rattle.rules.proofs.Run.{Going, run-inv, run-next, Kinds, short, long, kinds, bounds, Same, same}
 use Rattle.rules.proofs.Numbers.{word-append}
-use Rattle.rules.proofs.Counts.{none≢some, some-inj, said-here, said-next}
+use Rattle.rules.proofs.Counts.{said-here, said-next}
 
 -- ---- second ones
 

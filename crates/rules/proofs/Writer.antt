@@ -17,7 +17,7 @@ use Rattle.rules.specs.Clean.{cleanBytes}
 use Rattle.rules.specs.Valid.{Valid, DraftFits}
 use Rattle.rules.specs.Claims.{WholeRun, SaysOther}
 use Rattle.rules.specs.Writer.{Draft, drafted, accepted, written}
-use Rattle.rules.proofs.Outcomes.{pass, halt, step, stop, passed, stepped, good-inj, good≢bad, refused-at, refused-step}
+use Rattle.rules.proofs.Outcomes.{pass, halt, step, stop, passed, stepped, good-inj, good≢bad, refused-at, refused-step, refused-only}
 use Rattle.rules.proofs.Cut as Cut
 use Rattle.rules.proofs.Run.{run-ends}
 use Rattle.rules.proofs.Counts.{agreed, told-other, other-told}
@@ -156,6 +156,6 @@ miscounted d q m =
 pub count-written : (d : Draft) (q : ℕ) → (written d ≡ bad COUNT q) ↔ Miscounts d q
 unfolding written
 count-written d q = (
-  (λ e. ⊎-elim (λ m. miscounts d q m) (λ v. absurd (good≢bad (sym (v .2)))) (refused-step _ _ e)),
+  (λ e. miscounts d q (refused-only _ _ e)),
   λ w. stop _ _ (miscounted d q w),
 )

@@ -27,12 +27,6 @@ refused-number : (s : List ℕ) {n p : ℕ} → Claim.Refused s n p → n ≡ 0 
 refused-number s (Claim.large h) e = omega arith
 refused-number s (Claim.holes l r h) e = omega arith
 
--- what is reported does not depend on the buffer
-answer-alone : (b : List ℕ) (o : Outcome rule.Salvage) → answered b o .0 ≡ answered [] o .0
-unfolding answered
-answer-alone b (good x) = refl
-answer-alone b (bad n p) = refl
-
 answer-bad : (b : List ℕ) (n p : ℕ) → answered b (bad n p) ≡ (answered [] (bad n p) .0, b)
 unfolding answered
 answer-bad b n p = refl

@@ -3,7 +3,6 @@ use Prim.Native.Nat.{ℕ, zero, suc, _+_, _-_, _*_, _≤_, _<_}
 use mathlib.Core.Path.{_≡_, refl, sym, ap, _∙_}
 use mathlib.Core.Bool.{Bool, true, false, not, _&&_, _||_, and-true, and-false, or-false, or-assoc}
 use mathlib.Core.List.{List, [], _∷_, _++_, append-assoc, append-nil}
-use mathlib.Core.Logic.{⊎-elim}
 use native.Mathlib.Omega.{arith}
 use lib.Dec.{leb, ltb, eqb}
 use lib.ListN.{length, take, drop, getD, set, length-append, length-drop}
@@ -17,7 +16,7 @@ use Rattle.rules.specs.Message.{isSimulated, Message}
 use Rattle.rules.specs.Sheet as rules
 use Rattle.rules.specs.Sheet.{startOf, endOf, grants}
 use Rattle.rules.specs.Copy.{granted}
-use Rattle.rules.proofs.Outcomes.{passed, stepped, refused-step, fronted, good-inj, good≢bad, neither}
+use Rattle.rules.proofs.Outcomes.{passed, stepped, fronted, good-inj, neither, refused-only}
 use Rattle.rules.proofs.Loops.{sets-sets}
 use Rattle.sheet.specs.declared.Row.{Row}
 use Rattle.sheet.specs.Rows.{rowIn, rowAt}
@@ -131,7 +130,7 @@ module _ (s table₀ : List ℕ) where
 -- a sheet that is refused leaves the table
 pub left : (s table : List ℕ) {n p : ℕ} → bad n p ≡ countOfRows (rules.sheet s) → table ≡ laidOut (rules.sheet s) table
 left s table e =
-    ⊎-elim (λ z. ap (λ (o : Outcome (List rules.Row)). laidOut o table) (sym z)) (λ w. absurd (good≢bad (sym (w .2)))) (refused-step _ _ (sym e))
+    ap (λ (o : Outcome (List rules.Row)). laidOut o table) (sym (refused-only _ _ (sym e)))
 
 -- and one that has rows keeps the rules
 pub keeps : (s : List ℕ) {n : ℕ} → good n ≡ countOfRows (rules.sheet s) → Keeps s

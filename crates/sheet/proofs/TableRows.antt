@@ -1,7 +1,6 @@
 -- A table's rows: they are the sheet's, and the near rows of a message grant what they grant.
 use Prim.Native.Nat.{ℕ, zero, suc, _+_, _-_, _*_, _/_, _%_, _≤_}
 use mathlib.Core.Path.{_≡_, refl, sym, ap, ap₂, _∙_}
-use mathlib.Core.Logic.{⊎-elim}
 use mathlib.Core.Bool.{Bool, true, false, not, _&&_}
 use mathlib.Core.List.{List, [], _∷_}
 use native.Mathlib.Omega.{arith}
@@ -17,7 +16,7 @@ use Rattle.rules.specs.Message.{isSimulated, Message}
 use Rattle.rules.specs.Sheet as rows
 use Rattle.rules.specs.Sheet.{startOf, endOf, rowFits}
 use Rattle.rules.specs.Copy.{granted}
-use Rattle.rules.proofs.Outcomes.{passed, stepped, fronted, good-inj, good≢bad, refused-step, both}
+use Rattle.rules.proofs.Outcomes.{passed, stepped, fronted, good-inj, both, refused-only}
 use Rattle.rules.proofs.Kept.{take-sets}
 use Rattle.refusal.specs.declared.Refusal.{Refusal}
 use Rattle.refusal.specs.Numbers.{numberOf}
@@ -156,4 +155,4 @@ module _ (sheetBytes before after : List ℕ) (x : TableAnswer) (told : toldTabl
 
   -- or why it is refused
   pub sheet-refused : (f : Refusal) → x ≡ answer.Refused f → rows.sheet sheetBytes ≡ bad (numberOf (f .why)) (f .place)
-  sheet-refused f e = ⊎-elim (λ b. b) (λ w. absurd (good≢bad (sym (w .2)))) (refused-step _ _ (sym (ap toldTable (sym e) ∙ told)))
+  sheet-refused f e = refused-only _ _ (sym (ap toldTable (sym e) ∙ told))

@@ -14,7 +14,6 @@ use Rattle.numbered.specs.Numbering.{runningIn}
 use Rattle.numbered.specs.Quota.{delivering, numberedCopy}
 use Rattle.numbered.proofs.Numbers.{next-after, numbered-injective}
 use Rattle.numbered.proofs.First.{first-copies}
-use Rattle.step.specs.Step.{step}
 use Rattle.step.specs.Claims.{releasedOfAny, StepKeeps, StepHandles, StepNotLonger, QuotaZero, NumbersTrue, StepIds, StepRoom, FirstStepCopies, MeasuredStep, RunPasses, RunCopies, RunAsOne, RunRead, SameOutputs, DifferentOutputs, WindowCut, RefusalFinal}
 use Rattle.step.proofs.States.{running-low}
 use Rattle.step.proofs.Steps.{done, kept-state, unused-reported, careful-reported, handles}

@@ -6,7 +6,7 @@ use mathlib.Core.List.{List, map}
 use native.Mathlib.Omega.{arith}
 use borrow.Author.Tests.{ltb-true, ltb-false}
 use lib.Dec.{ltb}
-use lib.ListN.{length, take, replicate, length-take, length-replicate}
+use lib.ListN.{length, take, replicate, length-take, length-replicate, length-map}
 use lib.Seq.{sets}
 use Rattle.rules.specs.Outcome.{Outcome, good, bad, ROOM}
 use Rattle.rules.specs.Bytes.{Bytes}
@@ -15,7 +15,7 @@ use Rattle.rules.specs.Copy.{Entry, released, packagesIn}
 use Rattle.rules.proofs.Outcomes.{pass, halt, step, stop}
 use Rattle.numbered.specs.Numbering.{numbersAfter, numberedBytes, State, runningIn, idOf, holding}
 use Rattle.numbered.specs.Quota.{badState, Taken, takenFrom, messageOf, bytesTaken, idsFit, delivering, Report, reported, numberedCopy, measuredIds, atZero}
-use Rattle.numbered.proofs.States.{beside-ids, length-map}
+use Rattle.numbered.proofs.States.{beside-ids}
 use Rattle.numbered.proofs.Ids.{ids-same, after-same, refused-ids, refused-room, copy-done}
 use Rattle.numbered.proofs.Entries.{bytes-length}
 use Rattle.step.specs.Step as spec
@@ -97,7 +97,7 @@ module _ (input sheetBytes : List ℕ) (quota : ℕ) (state : State) (buffer : L
                 ∙ sym (ap (λ (x : Report × State × List ℕ). x .0) b),
             record {
               ids = ap (λ (x : Report × State × List ℕ). x .1 .ids) a ∙ ap (sets (state .ids) 0) i ∙ sym (ap (λ (x : Report × State × List ℕ). x .1 .ids) b);
-              held = ap (λ (x : Report × State × List ℕ). x .1 .held) a ∙ sym (length-map idOf (numbersAfter (runningIn state) es)) ∙ ap length i ∙ length-map idOf (numbersAfter (runningIn twin) es)
+              held = ap (λ (x : Report × State × List ℕ). x .1 .held) a ∙ sym (length-map (numbersAfter (runningIn state) es) idOf) ∙ ap length i ∙ length-map (numbersAfter (runningIn twin) es) idOf
                   ∙ sym (ap (λ (x : Report × State × List ℕ). x .1 .held) b);
             },
           )

@@ -1,13 +1,13 @@
 -- Runs of steps: the joined outputs are one copy, and tell the released lists apart.
-use Prim.Native.Nat.{ℕ, zero, _+_, _-_, _≤_}
+use Prim.Native.Nat.{ℕ, _+_, _≤_}
 use mathlib.Core.Path.{_≡_, refl, ap, ap₂, sym, subst, _∙_}
 use mathlib.Core.List.{List, [], _∷_, _++_, map}
 use native.Mathlib.Omega.{arith}
-use lib.ListN.{length, take, drop, length-append, take-append-drop}
+use lib.ListN.{length, drop, length-append, take-append-drop}
 use lib.Seq.{length-take-le}
-use Rattle.rules.specs.Outcome.{Outcome, good, bad}
+use Rattle.rules.specs.Outcome.{good, bad}
 use Rattle.rules.specs.Bytes.{Bytes, join}
-use Rattle.rules.specs.Items.{items, All, all-nil, all-cons}
+use Rattle.rules.specs.Items.{items, All, all-nil}
 use Rattle.rules.specs.Message.{Message, message}
 use Rattle.rules.specs.Sheet.{Row, sheet}
 use Rattle.rules.specs.Packages.{pieceOf}
@@ -18,14 +18,14 @@ use Rattle.rules.proofs.Outcomes.{step, stepped, good-inj, good≢bad}
 use Rattle.rules.proofs.Numbers.{bytes-left, bytes-right}
 use Rattle.rules.proofs.RoundTrip.{all-written-read}
 use Rattle.rules.proofs.Released.{bulk, all-valid, entries}
-use Rattle.rules.proofs.Growing.{released-append}
+use Rattle.rules.proofs.Growing.{released-append, all-append}
 use Rattle.numbered.specs.Numbering.{Running, nextNumber, countedOn, numbersAfter, numberedMessages, numberedBytes, State, runningIn}
 use Rattle.numbered.specs.Quota.{Report}
 use Rattle.step.specs.Step as spec
 use Rattle.step.specs.Step.{output, consumed}
-use Rattle.step.specs.Claims.{StateFits, releasedOfAny, Handles, Run, rest, next}
+use Rattle.step.specs.Claims.{StateFits, releasedOfAny, Run, rest, next}
 use Rattle.numbered.proofs.Messages.{messages-append}
-use Rattle.numbered.proofs.Numbers.{after-append, bytes-append, valid-numbered, numbered-injective}
+use Rattle.numbered.proofs.Numbers.{after-append, bytes-append, valid-numbered}
 use Rattle.step.proofs.States.{running-low}
 use Rattle.step.proofs.Steps.{Done, done, handles, fits-after}
 
@@ -33,10 +33,6 @@ use Rattle.step.proofs.Steps.{Done, done, handles, fits-after}
 list-is : (recordingBytes sheetBytes : List ℕ) (rows : List Row) (ms : List Message) → sheet sheetBytes ≡ good rows → items message 0 0 recordingBytes ≡ good ms → releasedOfAny recordingBytes sheetBytes ≡ good (released rows ms)
 unfolding releasedOfAny
 list-is recordingBytes sheetBytes rows ms v e = step _ _ v (step _ _ e refl)
-
-all-append : {A : Type 0} {P : A → Type 0} {l m : List A} → All P l → All P m → All P (l ++ m)
-all-append all-nil b = b
-all-append (all-cons h a) b = all-cons h (all-append a b)
 
 module _ (sheetBytes : List ℕ) where
   -- what a run comes to

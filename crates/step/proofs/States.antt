@@ -1,15 +1,15 @@
 -- States that a caller can hand over: the running numbers that they hold, and the states that hold running numbers.
-use Prim.Native.Nat.{ℕ, zero, suc, _+_, _^_, _≤_, _<_}
-use mathlib.Core.Path.{_≡_, refl, ap, ap₂, sym, _∙_}
-use mathlib.Core.List.{List, [], _∷_, _++_, map}
+use Prim.Native.Nat.{ℕ, zero, suc, _^_, _≤_, _<_}
+use mathlib.Core.Path.{_≡_, ap, ap₂, sym, _∙_}
+use mathlib.Core.List.{List, [], _∷_, map}
 use native.Mathlib.Omega.{arith}
-use lib.ListN.{length, getD, take, drop, set}
+use lib.ListN.{length, getD, take, set, length-map}
 use lib.Seq.{sets, length-sets, length-take-le}
 use Rattle.rules.specs.Items.{All, all-nil, all-cons}
 use Rattle.rules.proofs.Kept.{take-sets}
 use Rattle.numbered.specs.Numbering.{Running, beside, State, runningIn, idOf, nextOf, holding}
 use Rattle.numbered.proofs.Numbers.{Low}
-use Rattle.numbered.proofs.States.{beside-ids, beside-next, beside-length, beside-maps, length-map, sets-same}
+use Rattle.numbered.proofs.States.{beside-ids, beside-next, beside-length, beside-maps, sets-same}
 use Rattle.step.specs.Claims.{StateFits}
 
 -- ---- numbers of 32 bits
@@ -75,9 +75,9 @@ module _ (state : State) (fits : StateFits state) where
     unfolding holding
     running-holding =
         let a : take (length ns) (sets (state .ids) 0 (map idOf ns)) ≡ map idOf ns =
-        ap (λ (k : ℕ). take k (sets (state .ids) 0 (map idOf ns))) (sym (length-map idOf ns)) ∙ take-sets (state .ids) (map idOf ns) (omega (arith, length-map idOf ns, fits .ids)) in
+        ap (λ (k : ℕ). take k (sets (state .ids) 0 (map idOf ns))) (sym (length-map ns idOf)) ∙ take-sets (state .ids) (map idOf ns) (omega (arith, length-map ns idOf, fits .ids)) in
         let b : take (length ns) (sets (state .next) 0 (map nextOf ns)) ≡ map nextOf ns =
-        ap (λ (k : ℕ). take k (sets (state .next) 0 (map nextOf ns))) (sym (length-map nextOf ns)) ∙ take-sets (state .next) (map nextOf ns) (omega (arith, length-map nextOf ns, fits .next)) in
+        ap (λ (k : ℕ). take k (sets (state .next) 0 (map nextOf ns))) (sym (length-map ns nextOf)) ∙ take-sets (state .next) (map nextOf ns) (omega (arith, length-map ns nextOf, fits .next)) in
         ap₂ beside a b ∙ beside-maps ns
 
     pub fits-holding : All Low ns → StateFits (holding state ns)

@@ -2,27 +2,26 @@
 use Prim.Native.Nat.{ℕ, zero, suc, _+_, _-_, _≤_, _<_}
 use mathlib.Core.Path.{_≡_, refl, ap, sym, subst, _∙_}
 use mathlib.Core.Bool.{false}
-use mathlib.Core.List.{List, [], _∷_, _++_, map}
+use mathlib.Core.List.{List, [], _∷_, map}
 use native.Mathlib.Omega.{arith}
 use borrow.Author.Tests.{ltb-false}
-use lib.ListN.{length, getD, take, set}
+use lib.ListN.{length, getD, take, set, length-map}
 use lib.Seq.{sets, getD-set-other}
 use Rattle.rules.specs.Outcome.{Outcome, good, bad}
-use Rattle.rules.specs.Items.{items, All}
 use Rattle.rules.specs.Message.{message}
 use Rattle.rules.specs.Buffer.{fitted}
 use Rattle.rules.specs.Sheet.{Row, sheet}
 use Rattle.rules.specs.Copy.{Entry, released}
 use Rattle.rules.specs.Claims.{Careful}
-use Rattle.rules.proofs.Outcomes.{step, stepped, passed, came-after, good-inj}
+use Rattle.rules.proofs.Outcomes.{step, stepped, passed, came-after}
 use Rattle.rules.proofs.Gives.{Gives, Numbered, gives-good, gives-check, gives-after, gives-step, gives-front, numbered-message, numbered-sheet}
 use Rattle.rules.proofs.Kept.{careful-sets, careful-none, take-sets}
 use Rattle.numbered.specs.Numbering.{Running, numbersAfter, numberedBytes, State, runningIn, idOf, nextOf, holding}
-use Rattle.numbered.specs.Quota.{badState, Taken, takenAt, firstItems, takenFrom, messageOf, bytesTaken, idsFit, delivering, Report, reported, numberedCopy}
+use Rattle.numbered.specs.Quota.{badState, Taken, takenAt, firstItems, takenFrom, messageOf, idsFit, delivering, Report, reported, numberedCopy}
 use Rattle.numbered.proofs.Messages.{First, first-taken}
 use Rattle.numbered.proofs.Numbers.{low-after}
 use Rattle.numbered.proofs.Ids.{ids-few}
-use Rattle.numbered.proofs.States.{length-map, good-few}
+use Rattle.numbered.proofs.States.{good-few}
 use Rattle.step.specs.Step as spec
 use Rattle.step.specs.Step.{output}
 use Rattle.step.specs.Claims.{StateFits, releasedOfAny, Handles}
@@ -124,7 +123,7 @@ pub unused-reported : (state : State) (buffer : List ℕ) (o : Outcome (List Tak
 unfolding reported holding
 unused-reported state buffer (good r) k l =
     let ns = numbersAfter (runningIn state) (r .1) in
-    (getD-behind (state .ids) (map idOf ns) k (omega (arith, l, length-map idOf ns)), getD-behind (state .next) (map nextOf ns) k (omega (arith, l, length-map nextOf ns)))
+    (getD-behind (state .ids) (map idOf ns) k (omega (arith, l, length-map ns idOf)), getD-behind (state .next) (map nextOf ns) k (omega (arith, l, length-map ns nextOf)))
 unused-reported state buffer (bad n p) k l = (refl, refl)
 
 -- ---- a step that is done
@@ -156,7 +155,7 @@ module _ (input sheetBytes : List ℕ) (quota : ℕ) (state : State) (buffer : L
       record {
         messages = map messageOf (d .taken);
         read = took .read 0;
-        handled = sym (length-map messageOf (d .taken));
+        handled = sym (length-map (d .taken) messageOf);
         within = took .few;
         all = took .all;
         inside = took .inside;

@@ -1,16 +1,15 @@
 -- A window that ends within a message: what stands before the message is whole messages, and a step takes them.
-use Prim.Native.Nat.{ℕ, zero, suc, _+_, _-_, _≤_}
+use Prim.Native.Nat.{ℕ, zero, suc, _+_, _-_}
 use mathlib.Core.Path.{_≡_, refl, ap, sym, _∙_}
 use mathlib.Core.Logic.{_⊎_, ⊎-elim}
-use mathlib.Core.List.{List, [], _∷_, _++_}
-use native.Mathlib.Nat.{zero-add}
+use mathlib.Core.List.{List, [], _∷_}
 use native.Mathlib.Omega.{arith}
-use lib.ListN.{length, take, drop}
+use lib.ListN.{take, drop}
 use lib.Seq.{take-add}
-use Rattle.rules.specs.Outcome.{Outcome, good, bad, SHORT, CUT}
-use Rattle.rules.specs.Message.{Message, message}
-use Rattle.rules.proofs.Outcomes.{step, front-of, refused-step, refused-front, good≢bad}
-use Rattle.rules.proofs.Alone.{Own, own}
+use Rattle.rules.specs.Outcome.{good, bad, SHORT, CUT}
+use Rattle.rules.specs.Message.{message}
+use Rattle.rules.proofs.Outcomes.{step, front-of, refused-step, refused-front, good≢bad, refused-only}
+use Rattle.rules.proofs.Alone.{own}
 use Rattle.rules.proofs.Gives.{cut-place}
 use Rattle.numbered.specs.Quota.{Taken, takenAt, firstItems, takenFrom, bytesTaken}
 use Rattle.numbered.proofs.Messages.{taken-inv}
@@ -25,7 +24,7 @@ record Window (q k p : ℕ) (s : List ℕ) (r : ℕ) : Type 0 where
 
 refused-here : (p : ℕ) (s : List ℕ) (n r : ℕ) → takenAt p s ≡ bad n r → message p s ≡ bad n r
 unfolding takenAt
-refused-here p s n r e = ⊎-elim (λ b. b) (λ w. absurd (good≢bad (sym (w .2)))) (refused-step _ _ e)
+refused-here p s n r e = refused-only _ _ e
 
 window-none : (q p x : ℕ) (s : List ℕ) (r : ℕ) → r ≡ p → Window q 0 p (x ∷ s) r
 unfolding firstItems bytesTaken

@@ -1,17 +1,16 @@
 -- What the code answers is what the rule has.
 use Prim.Native.Nat.{ℕ, _≤_, _<_}
 use mathlib.Core.Path.{_≡_, refl, ap, sym, _∙_}
-use mathlib.Core.Bool.{Bool, true, false, _&&_, _||_}
-use mathlib.Core.Logic.{⊎-elim}
+use mathlib.Core.Bool.{Bool, true, false, _&&_}
 use mathlib.Core.List.{List}
 use native.Mathlib.Omega.{arith}
 use borrow.Author.Tests.{lt-leb, le-leb, eq-eqb, ne-eqb}
 use lib.Dec.{leb, eqb}
 use lib.ListN.{length}
-use Rattle.rules.specs.Outcome.{Outcome, good, bad, LARGE}
+use Rattle.rules.specs.Outcome.{good, bad, LARGE}
 use Rattle.rules.specs.Message.{Message, recording}
 use Rattle.rules.specs.Reading.{checkedRecording}
-use Rattle.rules.proofs.Outcomes.{pass, halt, stepped, refused-step, good≢bad}
+use Rattle.rules.proofs.Outcomes.{pass, halt, stepped, refused-only}
 use Rattle.windows.specs.Window.{isCut, endingBefore, handedBy, handedOver}
 
 pub short-cut : (r n : ℕ) → r ≡ n → r ≡ 1 → eqb r 1 ≡ isCut n
@@ -43,7 +42,7 @@ read-good window r e = let (ms, g, f) = stepped _ _ e in (ms, g)
 
 read-bad : (window : List ℕ) (n p : ℕ) → checkedRecording window ≡ bad n p → recording window ≡ bad n p
 unfolding checkedRecording
-read-bad window n p e = ⊎-elim (λ b. b) (λ w. absurd (good≢bad (sym (w .2)))) (refused-step _ _ e)
+read-bad window n p e = refused-only _ _ e
 
 pub handed-whole : (goesOn : Bool) (window : List ℕ) (r : ℕ × ℕ) → checkedRecording window ≡ good r → good (length window) ≡ handedOver goesOn window
 unfolding handedOver handedBy

@@ -1,10 +1,8 @@
 -- A promise allows one answer: what is told of a window settles it.
-use Prim.Native.Nat.{ℕ}
-use mathlib.Core.Path.{_≡_, ap, sym}
+use mathlib.Core.Path.{ap, sym}
 use Rattle.rules.specs.Claims.{TellsApart}
 use Rattle.rules.proofs.Outcomes.{good-inj, good≢bad}
 use Rattle.refusal.proofs.Numbers.{refused-injective}
-use Rattle.windows.specs.declared.Handed.{Handed}
 use Rattle.windows.specs.declared.Handed.the-variants.{Bytes, Refused}
 use Rattle.windows.specs.Told.{toldHanded}
 

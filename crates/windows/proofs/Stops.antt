@@ -4,13 +4,13 @@ use mathlib.Core.Path.{_≡_, refl, ap, sym, _∙_}
 use mathlib.Core.Logic.{⊎-elim}
 use mathlib.Core.List.{List, [], _∷_, _++_}
 use native.Mathlib.Omega.{arith}
-use lib.ListN.{length, take, drop, length-append}
+use lib.ListN.{length, take, drop}
 use lib.Seq.{take-add}
-use Rattle.rules.specs.Outcome.{Outcome, good, bad, _∷>_}
+use Rattle.rules.specs.Outcome.{good, bad}
 use Rattle.rules.specs.Items.{items}
 use Rattle.rules.specs.Message.{Message, message}
-use Rattle.rules.proofs.Outcomes.{step, stop, stepped, fronted, front-of, refused-step, refused-front, good≢bad}
-use Rattle.rules.proofs.Alone.{Own, own}
+use Rattle.rules.proofs.Outcomes.{step, stop, stepped, fronted, front-of, refused-step, refused-front, good≢bad, stop-front}
+use Rattle.rules.proofs.Alone.{own}
 use Rattle.numbered.proofs.Messages.{own-here}
 
 -- s stands at place p, and its first k bytes belong to the message before: the messages up to d bytes behind them pass, and the next is refused
@@ -62,11 +62,6 @@ stopped zero p (x ∷ s) e =
     (λ a. stopped-next p x s (a .0 .0) (a .0 .1) (a .1) (stopped (a .0 .1 - 1) (suc p) s (refused-front _ _ (a .2))))
     (refused-step _ _ e)
 
--- a refusal stays behind a message
-bad-front : {A : Type 0} (a : A) (o : Outcome (List A)) {n q : ℕ} → o ≡ bad n q → (a ∷> o) ≡ bad n q
-unfolding _∷>_
-bad-front a o e = rw e
-
 -- messages that pass, and behind them one that does not
 pub refused-behind : (k p : ℕ) (a b : List ℕ) {ms : List Message} {n q : ℕ} → k ≤ length a → 1 ≤ length b → items message k p a ≡ good ms → message (p + length a) b ≡ bad n q
     → items message k p (a ++ b) ≡ bad n q
@@ -85,4 +80,4 @@ refused-behind zero p (x ∷ a) b h l e f =
     let o = own p (x ∷ a) (r .0) (r .1) g in
     let c : r .1 - 1 ≤ length a = omega (arith, o .most, o .least) in
     let z : suc p + length a ≡ p + suc (length a) = omega arith in
-    step _ _ (own-here p p (x ∷ a) b (r .0) (r .1) g) (bad-front _ _ (refused-behind (r .1 - 1) (suc p) a b c l i (rw z f)))
+    step _ _ (own-here p p (x ∷ a) b (r .0) (r .1) g) (stop-front _ _ (refused-behind (r .1 - 1) (suc p) a b c l i (rw z f)))

@@ -1,28 +1,29 @@
 -- What a window's reading says of what is handed over, and of the whole recording.
-use Prim.Native.Nat.{ℕ, zero, suc, _+_, _-_, _≤_, _<_}
+use Prim.Native.Nat.{ℕ, _+_, _≤_, _<_}
 use mathlib.Core.Path.{_≡_, refl, ap, sym, subst, _∙_}
-use mathlib.Core.Bool.{Bool, true, false, _&&_, _||_}
+use mathlib.Core.Bool.{Bool, true, false, _&&_}
 use mathlib.Core.Logic.{_⊎_, inl, inr, ⊎-elim}
-use mathlib.Core.List.{List, [], _∷_, _++_, append-assoc, append-nil}
+use mathlib.Core.List.{List, [], _++_, append-assoc, append-nil}
 use native.Mathlib.Omega.{arith}
+use native.Mathlib.Nat.{pos-of-ne-zero}
 use borrow.Author.Tests.{ltb-true, ltb-false, le-ltb, leb-true, le-leb, eqb-true, eq-eqb}
 use lib.Dec.{ltb, leb, eqb}
 use lib.ListN.{length, take, drop, length-append, length-drop, take-append-drop}
 use lib.Seq.{take-all, length-take-le, take-append-le}
-use Rattle.rules.specs.Outcome.{Outcome, good, bad, refuse, _>>_, SHORT, CUT, LARGE}
+use Rattle.rules.specs.Outcome.{Outcome, good, bad, refuse, SHORT, CUT, LARGE}
 use Rattle.rules.specs.Bytes.{join}
 use Rattle.rules.specs.Items.{items}
-use Rattle.rules.specs.Message.{notLarge, Message, message, recording}
+use Rattle.rules.specs.Message.{Message, message, recording}
 use Rattle.rules.proofs.Outcomes.{pass, halt, passed, refused-pass, bad-inj, good-inj, good≢bad, both}
-use Rattle.rules.proofs.Alone.{Own, own}
+use Rattle.rules.proofs.Alone.{own}
 use Rattle.rules.proofs.Gives.{Gives, gives-items, gives-message, cut-place}
 use Rattle.rules.proofs.Walk.{items-stop}
 use Rattle.rules.proofs.Final.{final}
 use Rattle.numbered.proofs.Messages.{messages-append}
 use Rattle.windows.specs.Window.{isCut, endingBefore, handedBy, handedOver}
 use Rattle.windows.specs.Claims.{HandedOver, FirstCut, Windows, last, next}
-use Rattle.windows.proofs.Shifted.{refused-further}
-use Rattle.windows.proofs.Stops.{Stopped, stopped, refused-behind}
+use Rattle.rules.proofs.Shifted.{refused-further}
+use Rattle.windows.proofs.Stops.{stopped, refused-behind}
 
 -- ---- numbers that say that a message's end is not there
 
@@ -120,12 +121,8 @@ handed-cut goesOn window k p n g c e f =
       read = w .read;
       kept = λ l. cut-both k p _ c (w .refused);
       all = λ no. let v : _≡_ {A = Bool} true false = sym g ∙ no in let u : _≡_ {A = ℕ} 0 1 = cc in absurd (omega (arith, u));
-      onward = λ full. positive p (λ none. some none (omega (arith, full)));
+      onward = λ full. pos-of-ne-zero (λ none. some none (omega (arith, full)));
     })
-  where
-    positive : (j : ℕ) → (j ≡ 0 → ⊥) → 0 < j
-    positive zero h = absurd (h refl)
-    positive (suc j) h = omega arith
 
 handed-all : (goesOn : Bool) (window : List ℕ) (ms : List Message) (n : ℕ) → recording window ≡ good ms → length window ≡ n → HandedOver goesOn window n
 handed-all goesOn window ms n e z = record {

@@ -1,15 +1,13 @@
 -- `burst::randomize_part` meets its contract. The invariant of its loop: the part with its bytes from k on randomized is what the contract asks for.
-use Prim.Native.Nat.{ℕ, _+_, _-_, _<_}
+use Prim.Native.Nat.{_+_, _-_}
 use mathlib.Core.Path.{_≡_, refl, sym, _∙_}
-use mathlib.Core.List.{List}
-use native.Mathlib.Nat.{add-zero, zero-add, add-suc}
+use native.Mathlib.Nat.{add-zero, add-suc}
 use native.Mathlib.Numerals.{add-one}
 use native.Mathlib.Omega.{arith}
-use lib.ListN.{length, getD, set, length-set}
+use lib.ListN.{length, length-set}
 use borrow.Author.Needs.{needs}
-use Rattle.rules.specs.Burst.{_xor_, sequenceBytes, randomized}
-use Rattle.rules.proofs.Sequence.{bytes-at}
-use Rattle.burst.proofs.Buffer.{left, one-less, none-left}
+use Rattle.rules.specs.Burst.{randomized}
+use Rattle.burst.proofs.Buffer.{left, byte-less, none-left}
 use Rattle.burst.proofs.randomize_part.Statement.{statement}
 use Rattle.burst.proofs.randomize_part.Tie as tie
 
@@ -18,10 +16,6 @@ Inv-loop part₀ table from k₀ part k = (length part ≡ length part₀) × (l
 
 abbrev μ-loop : tie.MeasureT-loop
 μ-loop part₀ table from k₀ part k = length part₀ - k
-
--- a turn: byte k, with entry f + k of a table of n bytes
-turn : (n : ℕ) (t s : List ℕ) (f k : ℕ) → t ≡ sequenceBytes 0 n → f + k < n → k < length s → left (f + (k + 1)) (k + 1) (set s k (getD s k 0 xor getD t (f + k) 0)) ≡ left (f + k) k s
-turn n t s f k e l h = rw (e, bytes-at n 0 (f + k) l, zero-add, add-one, add-suc) (one-less (f + k) k s h)
 
 loop-holds : tie.Need-loop-holds Inv-loop μ-loop
 loop-holds c = (refl, rw add-zero)
@@ -49,7 +43,7 @@ loop-again c =
     let l = c .before .before .before .loop in
     let f = c .before .before .before .before in
     let t = f .args .table .now in
-    (simp length-set (l .inv .0), turn (length t) t (l .part) (f .args .from) (l .k) (f .pre .1) (omega arith) (omega arith) ∙ l .inv .1)
+    (simp length-set (l .inv .0), rw (add-one, add-suc) (byte-less (length t) t (l .part) (f .args .from + l .k) (l .k) (f .pre .1) (omega arith) (omega arith) ∙ l .inv .1))
 
 same-length : tie.Need-same-length Inv-loop μ-loop
 same-length c = search needs

@@ -1,9 +1,7 @@
 -- `hibernaxo::part_of` meets its contract: in the loop the numbers before number i are there.
-use Prim.Native.Nat.{ℕ, _+_, _-_, _≤_, _<_}
-use mathlib.Core.Path.{_≡_, refl, ap, _∙_}
-use mathlib.Core.List.{List}
+use Prim.Native.Nat.{ℕ, _-_, _≤_}
+use mathlib.Core.Path.{_≡_, ap, _∙_}
 use native.Mathlib.Omega.{arith}
-use borrow.Author.Needs.{needs}
 use lib.ListN.{replicate}
 use lib.Seq.{sets}
 use Rattle.hibernaxo.specs.Told.{numbersFrom}

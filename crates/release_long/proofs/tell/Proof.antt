@@ -1,5 +1,4 @@
 -- `release_long::tell`: the digits that are shown lie in their array.
-use Prim.Native.Nat.{ℕ}
 use mathlib.Core.Path.{_≡_, sym}
 use native.Mathlib.Omega.{arith}
 use lib.ListN.{length}

@@ -5,12 +5,11 @@ use mathlib.Core.Bool.{Bool, true, false, not}
 use mathlib.Core.List.{List, [], _∷_}
 use native.Mathlib.Omega.{arith}
 use lib.Dec.{eqb}
-use lib.ListN.{length}
 use Rattle.rules.specs.Outcome.{Outcome, good, bad, refuse, _>>_, _>>=_, _∷>_, OPTION}
 use Rattle.rules.specs.Items.{items}
 use Rattle.rules.specs.Options.{optionFits, optionSize, isSecond, optionRunFrom}
 use Rattle.rules.specs.Packages.{piece, cut}
-use Rattle.rules.specs.Message.{Head, head, payloadStart, payload, checksOneToSix, optionRunLength, checksEightAndNine, checksOneToNine, checksOneToTen, everyCheck, Message, message}
+use Rattle.rules.specs.Message.{Head, head, payloadStart, payload, checksOneToSix, optionRunLength, checksEightAndNine, checksOneToNine, checksOneToTen, everyCheck, message}
 
 -- the same outcome, its place c further on
 unfoldable pub shifted : {A : Type 0} → ℕ → Outcome A → Outcome A
@@ -36,7 +35,7 @@ module _ (c : ℕ) where
   shifted-check : {A : Type 0} (b : Bool) (n p : ℕ) (o : Outcome A) {o′ : Outcome A} → o′ ≡ shifted c o → (refuse b n (c + p) >> o′) ≡ shifted c (refuse b n p >> o)
   shifted-check b n p o e = shifted-after (refuse b n p) o (shifted-refuse b n p) e
 
-  shifted-step : {A B : Type 0} (o : Outcome A) {o′ : Outcome A} (f f′ : A → Outcome B) → o′ ≡ shifted c o → ((a : A) → f′ a ≡ shifted c (f a)) → (o′ >>= f′) ≡ shifted c (o >>= f)
+  pub shifted-step : {A B : Type 0} (o : Outcome A) {o′ : Outcome A} (f f′ : A → Outcome B) → o′ ≡ shifted c o → ((a : A) → f′ a ≡ shifted c (f a)) → (o′ >>= f′) ≡ shifted c (o >>= f)
   unfolding shifted _>>=_
   shifted-step (good a) f f′ e g = rw e (g a)
   shifted-step (bad n p) f f′ e g = rw e
@@ -48,7 +47,7 @@ module _ (c : ℕ) where
 
   -- ---- items, one behind the other
 
-  pub shifted-items : {A : Type 0} (read : ℕ → List ℕ → Outcome (A × ℕ)) → ((p : ℕ) (s : List ℕ) → read (c + p) s ≡ shifted c (read p s)) → (k p : ℕ) (s : List ℕ)
+  shifted-items : {A : Type 0} (read : ℕ → List ℕ → Outcome (A × ℕ)) → ((p : ℕ) (s : List ℕ) → read (c + p) s ≡ shifted c (read p s)) → (k p : ℕ) (s : List ℕ)
       → items read k (c + p) s ≡ shifted c (items read k p s)
   unfolding items shifted
   shifted-items read each k p [] = refl
@@ -82,7 +81,7 @@ module _ (c : ℕ) where
   unfolding piece shifted
   shifted-piece p s = shifted-check _ _ _ _ refl
 
-  shifted-cut : (p : ℕ) (s : List ℕ) → cut (c + p) s ≡ shifted c (cut p s)
+  pub shifted-cut : (p : ℕ) (s : List ℕ) → cut (c + p) s ≡ shifted c (cut p s)
   shifted-cut p s = shifted-items piece shifted-piece _ _ _
 
   -- ---- a message
@@ -91,7 +90,7 @@ module _ (c : ℕ) where
   unfolding checksOneToSix
   shifted-six p s h = shifted-check _ _ _ _ (shifted-check _ _ _ _ (shifted-check _ _ _ _ (shifted-check _ _ _ _ (shifted-check _ _ _ _ (shifted-refuse _ _ _)))))
 
-  shifted-seven : (p : ℕ) (s : List ℕ) (h : Head) → optionRunLength (c + p) s h ≡ shifted c (optionRunLength p s h)
+  pub shifted-seven : (p : ℕ) (s : List ℕ) (h : Head) → optionRunLength (c + p) s h ≡ shifted c (optionRunLength p s h)
   unfolding optionRunLength
   shifted-seven p s h = rw (further c p 24) (shifted-after _ _ (shifted-six p s h) (shifted-run [] 0 (p + 24) 0 _))
 
