@@ -3,13 +3,12 @@ use Prim.Native.Nat.{ℕ, suc, _+_, _-_, _*_, _/_, _%_, _≤_, _<_}
 use mathlib.Core.Path.{_≡_, refl, sym, ap, subst, _∙_}
 use mathlib.Core.Bool.{Bool, true, false}
 use mathlib.Core.List.{List, [], _∷_, _++_}
-use native.Mathlib.Nat.{add-zero}
 use native.Mathlib.Omega.{arith}
 use borrow.Author.Tests.{lt-ltb, le-ltb, ltb-true, ltb-false}
 use lib.Dec.{ltb}
-use lib.ListN.{length, getD, take, drop, length-drop, length-append, length-map}
-use lib.Seq.{drop-cons, getD-drop, length-take-le}
-use Rattle.rules.specs.Outcome.{Outcome, good, bad, refuse, _>>_, _>>=_, SHORT, VERSION, LARGE, FRAGMENT, STANDARD, COUNT}
+use lib.ListN.{length, take, drop, length-drop, length-append, length-map}
+use lib.Seq.{drop-cons, length-take-le}
+use Rattle.rules.specs.Outcome.{Outcome, good, bad, refuse, _>>_, _>>=_, SHORT, LARGE, FRAGMENT, STANDARD, COUNT}
 use Rattle.rules.specs.Bytes.{at, part, oneIfAny}
 use Rattle.rules.specs.Items.{Fills, none, more}
 use Rattle.rules.specs.Options.{countSaid, differs}
@@ -21,7 +20,7 @@ use Rattle.rules.proofs.Passed.{passes}
 use Rattle.rules.proofs.Loops.{rest, Doing, doing-start, doing-next, doing-end, doing-bad}
 use Rattle.rules.proofs.Cut as Cut
 use Rattle.message.proofs.Tests.{is, isnt}
-use Rattle.message.proofs.Checks.{short, version}
+use Rattle.message.proofs.Checks.{short}
 use Rattle.message.proofs.Headers.{unread, headed}
 use Rattle.message.specs.Answers.{headOfHeader, toldHeader, headerHere, oneIfBytes, eightAndNine, Opened, cutCount, spotBehindRun, messageHere}
 use Rattle.rules.specs.Reading.{MessageSpot, messageSpot, messageAt}
@@ -148,17 +147,11 @@ module _ (s : List ℕ) (p : ℕ) where
   large a = sym (halt _ _ _ _ (lt-ltb 65536 (length s) a))
 
   module _ (a : length s ≤ 65536) where
-    -- what checks 1 to 6 refuse
-    refused : {n q : ℕ} → bad n q ≡ checksOneToSix p (drop p s) (head (drop p s)) → bad n q ≡ messageAt s p
-    unfolding messageAt everyCheck checksOneToTen checksOneToNine optionRunLength
-    refused e = sym (pass _ _ _ _ (le-ltb 65536 (length s) a) (stop _ _ (stop _ _ (stop _ _ (stop _ _ (stop-before _ _ (sym e)))))))
-
     pub few : length s < p + 24 → bad SHORT p ≡ messageAt s p
-    few b = refused (short p (drop p s) (head (drop p s)) (omega (arith, length-drop p s)))
-
-    pub other-version : p + 24 ≤ length s → (getD s p 0 / 16 ≡ 1 → ⊥) → bad VERSION p ≡ messageAt s p
-    unfolding head
-    other-version b c = refused (version p (drop p s) (head (drop p s)) (omega (arith, length-drop p s)) (λ z. c (rw (getD-drop p s 0 0, add-zero) at z)))
+    unfolding messageAt everyCheck checksOneToTen checksOneToNine optionRunLength
+    few b =
+        let e : checksOneToSix p (drop p s) (head (drop p s)) ≡ bad SHORT p = sym (short p (drop p s) (head (drop p s)) (omega (arith, length-drop p s))) in
+        sym (pass _ _ _ _ (le-ltb 65536 (length s) a) (stop _ _ (stop _ _ (stop _ _ (stop _ _ (stop-before _ _ e))))))
 
     pub here : {o : Outcome MessageSpot} → o ≡ messageHere p (take (length s - p) (drop p s)) → o ≡ messageAt s p
     unfolding messageAt messageHere

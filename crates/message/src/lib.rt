@@ -631,7 +631,7 @@ fn is_short(n: usize, at: usize) -> bool
     n - 24 < at
 }
 
-// The message at place `at` of a recording. Where none can begin, that is told before any call: salvage asks at every offset.
+// The message at place `at` of a recording.
 pub fn message_at(s: &[u8], at: usize) -> MessageRead
     ensures { λ r. ⌜ spec.toldMessage r ≡ reading.messageAt (now (s .entry)) at ⌝ }
 {
@@ -644,12 +644,6 @@ pub fn message_at(s: &[u8], at: usize) -> MessageRead
     if is_short(s.len(), at) {
         return MessageRead::Refused(Refusal {
             why: Why::Short,
-            place: at,
-        });
-    }
-    if s[at] / 16 != 1 {
-        return MessageRead::Refused(Refusal {
-            why: Why::Version,
             place: at,
         });
     }

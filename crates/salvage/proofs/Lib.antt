@@ -5,6 +5,7 @@ pub mod Gaps
 pub mod Worked
 pub mod Claims
 pub mod Growing
+pub mod Skips
 pub mod Surveying
 pub mod Delivering
 pub mod Answering

@@ -1,12 +1,15 @@
 -- What the survey's loop over the input keeps.
-use Prim.Native.Nat.{ℕ, zero, suc, _+_, _-_, _≤_, _<_, min}
+use Prim.Native.Nat.{ℕ, zero, suc, _+_, _-_, _/_, _≤_, _<_, min}
 use mathlib.Core.Path.{_≡_, refl, sym, ap, _∙_}
+use mathlib.Core.Bool.{Bool, true, false}
 use mathlib.Core.List.{List, [], _∷_, _++_, map, append-nil, append-assoc}
 use native.Mathlib.Nat.{add-zero}
 use native.Mathlib.Omega.{arith}
-use borrow.Author.Tests.{le-ltb, lt-ltb}
+use native.Mathlib.Numerals.{add-one}
+use borrow.Author.Tests.{le-ltb, lt-ltb, ltb-true, ltb-false, eqb-true, eqb-false, eq-eqb}
+use lib.Dec.{ltb, eqb}
 use lib.ListN.{length, getD, take, drop, set, replicate, length-append, length-drop, length-take}
-use lib.Seq.{getD-at, set-at, length-take-le}
+use lib.Seq.{getD-at, set-at, set-set, length-take-le}
 use Rattle.rules.specs.Outcome.{Outcome, good, bad, LARGE}
 use Rattle.rules.specs.Items.{items}
 use Rattle.rules.specs.Reading.{MessageSpot, messageAt}
@@ -18,10 +21,11 @@ use Rattle.rules.proofs.Alone.{message-inside}
 use Rattle.refusal.specs.Numbers.{HOLES}
 use Rattle.salvage.specs.Salvage as rule
 use Rattle.salvage.specs.Salvage.{Piece, pieceAt, keptText, keptCount, skipping, stretchesFrom, salvageOf, salvaged, answered}
-use Rattle.salvage.specs.Told.{stretchIn, noStretch, numbers, surveyed, slotOf, startOf}
+use Rattle.salvage.specs.Told.{stretchIn, noStretch, stretchOf, numbers, surveyed, skipsEnd, slotOf, startOf}
 use Rattle.salvage.specs.declared.Stretch.{Stretch}
 use Rattle.salvage.specs.declared.SalvageAnswer.the-variants.{Done}
-use Rattle.salvage.proofs.Pieces.{keptPiece, lostPiece, piece-kept, piece-lost, Reading, reads, fails, reading, Found, found}
+use Rattle.salvage.proofs.Pieces.{keptPiece, lostPiece, Lost, piece-kept, piece-lost, Reading, reads, fails, reading, Found, found}
+use Rattle.salvage.proofs.Skips.{first, goes-on, ends-here, ended, lost-byte}
 use Rattle.salvage.proofs.Growing.{kept-append, count-append, stretches-append, Stays, stays-on, Tail, empty, ends, Slot, slot}
 
 -- a message at place p, behind which the next offset is x
@@ -39,14 +43,14 @@ kept-at s p k l e =
     record { size = k .head .size; next = r .next; least = a; inside = omega (arith, length-drop p s); read = piece-kept p (drop p s) (r .held) (k .head .size) (r .read) }
 
 -- no message at place p
-pub lost-at : (s : List ℕ) (p : ℕ) {a b : ℕ} → length s ≤ 65536 → bad a b ≡ messageAt s p → pieceAt p (drop p s) ≡ good (lostPiece p (take 4 (drop p s)), min 4 (length (drop p s)))
+pub lost-at : (s : List ℕ) (p : ℕ) {a b : ℕ} → length s ≤ 65536 → bad a b ≡ messageAt s p → Lost s p
 lost-at s p {a} {b} l e = go (reading p (drop p s))
   where
-    go : Reading p (drop p s) → pieceAt p (drop p s) ≡ good (lostPiece p (take 4 (drop p s)), min 4 (length (drop p s)))
+    go : Reading p (drop p s) → Lost s p
     go (fails k q f) = piece-lost p (drop p s) f
     go (reads m n f) = absurd (good≢bad (e ∙ spot-read s p l m n f .1))
 
-pub skip-is : (s : List ℕ) (p : ℕ) → min 4 (length (drop p s)) ≡ min 4 (length s - p)
+skip-is : (s : List ℕ) (p : ℕ) → min 4 (length (drop p s)) ≡ min 4 (length s - p)
 skip-is s p = rw length-drop
 
 -- ---- the survey
@@ -131,17 +135,17 @@ module _ (s : List ℕ) (stretches : List Stretch) (count last end bytes message
         }
 
     -- a skip of n bytes
-    module _ (n : ℕ) (n-is : n ≡ min 4 (length s - p)) (e : pieceAt p (drop p s) ≡ good (lostPiece p (take 4 (drop p s)), min 4 (length (drop p s)))) where
+    module _ (e : Lost s p) where
+      abbrev n : ℕ
+      n = min 4 (length s - p)
+
       abbrev lost : Piece
       lost = lostPiece p (take 4 (drop p s))
 
       skip-size : length (take 4 (drop p s)) ≡ n
-      skip-size = length-take 4 (drop p s) ∙ skip-is s p ∙ sym n-is
+      skip-size = length-take 4 (drop p s) ∙ skip-is s p
 
-      took : min 4 (length (drop p s)) ≡ n
-      took = skip-is s p ∙ sym n-is
-
-      pub on : (1 ≤ n) × (p + n ≤ length s)
+      on : (1 ≤ n) × (p + n ≤ length s)
       on = (omega arith, omega arith)
 
       there : Slot (stretchesFrom [] (inv .done)) count (slotOf count end p) (startOf count last end p) p n
@@ -154,12 +158,12 @@ module _ (s : List ℕ) (stretches : List Stretch) (count last end bytes message
       slot-most = omega (arith, there .most, inv .few)
 
       doing-skip : Doing pieceAt s (inv .done ++ (lost ∷ [])) (p + n)
-      doing-skip = doing-next pieceAt s (inv .done) p lost n (inv .doing) l (on .0) (e ∙ rw took)
+      doing-skip = doing-next pieceAt s (inv .done) p lost n (inv .doing) l (on .0) (e ∙ rw (skip-is s p))
 
       skipped : stretchesFrom [] (inv .done ++ (lost ∷ [])) ≡ there .init ++ (record { start = startOf count last end p; size = p + n - startOf count last end p } ∷ [])
       skipped = stretches-append [] (inv .done) (lost ∷ []) ∙ stretch-lost (stretchesFrom [] (inv .done)) p (take 4 (drop p s)) ∙ rw skip-size (there .skips)
 
-      pub survey-lost : (r : Stretch) → slotOf count end p < 64 → stretchIn r ≡ record { start = startOf count last end p; size = p + n - startOf count last end p }
+      survey-lost : (r : Stretch) → slotOf count end p < 64 → stretchIn r ≡ record { start = startOf count last end p; size = p + n - startOf count last end p }
           → Surveying s (set stretches (slotOf count end p) r) (slotOf count end p + 1) (startOf count last end p) (p + n) bytes messages (p + n)
       survey-lost r h q =
           let (y, f) = there .room h in
@@ -214,6 +218,48 @@ module _ (s : List ℕ) (stretches : List Stretch) (count last end bytes message
       let f : salvaged s ≡ good (record { text = keptText (inv .done); messages = keptCount (inv .done); stretches = stretchesFrom [] (inv .done) }) =
       pass _ _ _ _ (le-ltb 65536 (length s) w) (step _ _ (doing-end pieceAt s (inv .done) p (inv .doing) l) (pass _ _ _ _ (le-ltb 64 (length (stretchesFrom [] (inv .done))) (omega (arith, inv .many, inv .few))) refl)) in
       sym (ap (λ (o : Outcome rule.Salvage). answered [] o .0) f ∙ rw (inv .text, inv .number, inv .many, inv .filled))
+
+-- ---- skips, one behind the other
+
+slot-same : (k e : ℕ) → slotOf (k + 1) e e ≡ k
+unfolding slotOf
+slot-same k e = rw (add-one, eq-eqb e e refl, slotOf)
+
+start-same : (k start e : ℕ) → startOf (k + 1) start e e ≡ start
+unfolding startOf
+start-same k start e = rw (add-one, eq-eqb e e refl, startOf)
+
+module _ (s : List ℕ) (stretches : List Stretch) (k start bytes messages : ℕ) (few : k < 64) where
+  abbrev Up-to : ℕ → Type 0
+  Up-to e = Surveying s (set stretches k (stretchOf start e)) (k + 1) start e bytes messages e
+
+  -- the last stretch, up to place e, is made longer by a skip there, and by those behind it
+  longer : (e : ℕ) → e < length s → (getD s e 0 / 16 ≡ 1 → ⊥) → Up-to e → Up-to (e + min 4 (length s - e))
+  longer e l c inv =
+      rw (slot-same, start-same, set-set) at
+      (survey-lost s _ _ _ _ _ _ e inv l (lost-byte s e c) (stretchOf start (e + min 4 (length s - e))) (rw slot-same few) (rw start-same))
+
+  to-the-end : (n e : ℕ) → length s - e ≤ n → Up-to e → Up-to (skipsEnd 0 e (drop e s))
+  to-the-end zero e h inv = rw (ended s e (omega arith)) inv
+  to-the-end (suc n) e h inv = go (ltb e (length s)) refl (eqb (getD s e 0 / 16) 1) refl (to-the-end n)
+    where
+      go : (a : Bool) → ltb e (length s) ≡ a → (b : Bool) → eqb (getD s e 0 / 16) 1 ≡ b → ((f : ℕ) → length s - f ≤ n → Up-to f → Up-to (skipsEnd 0 f (drop f s))) → Up-to (skipsEnd 0 e (drop e s))
+      go false l b c again = rw (ended s e (ltb-false _ _ l)) inv
+      go true l true c again = rw (ends-here s e (ltb-true _ _ l) (eqb-true _ _ c)) inv
+      go true l false c again =
+          let z = ltb-true e (length s) l in
+          let f = eqb-false (getD s e 0 / 16) 1 c in
+          rw (goes-on s e z f, first s e (omega arith)) (again (e + min 4 (length s - e)) (omega arith) (longer e z f inv))
+
+-- what the skips that begin at place p come to, at which no message stands: one stretch, the last or one more
+module _ (s : List ℕ) (stretches : List Stretch) (count last end bytes messages p : ℕ) (inv : Surveying s stretches count last end bytes messages p)
+    (l : p < length s) (e : Lost s p) where
+  pub survey-skips : slotOf count end p < 64
+      → Surveying s (set stretches (slotOf count end p) (stretchOf (startOf count last end p) (skipsEnd 4 p (drop p s)))) (slotOf count end p + 1) (startOf count last end p) (skipsEnd 4 p (drop p s)) bytes messages (skipsEnd 4 p (drop p s))
+  survey-skips h =
+      rw (first s p (omega arith))
+      (to-the-end s stretches (slotOf count end p) (startOf count last end p) bytes messages h (length s) (p + min 4 (length s - p)) (omega arith)
+      (survey-lost s stretches count last end bytes messages p inv l e (stretchOf (startOf count last end p) (p + min 4 (length s - p))) h refl))
 
 pub survey-large : (s : List ℕ) → 65536 < length s → answered [] (bad LARGE 65536) .0 ≡ surveyed s
 unfolding salvaged

@@ -1,5 +1,5 @@
 -- What the code's answers stand for.
-use Prim.Native.Nat.{ℕ, zero, suc, _+_, _-_, _≤_}
+use Prim.Native.Nat.{ℕ, zero, suc, _+_, _-_, _/_, _≤_}
 use mathlib.Core.Bool.{true, false}
 use mathlib.Core.List.{List, [], _∷_, map}
 use lib.Dec.{eqb}
@@ -37,6 +37,12 @@ told r b = (report r, b)
 -- what a survey reports, which writes nothing: the answer if the buffer has room
 abbrev pub surveyed : List ℕ → rule.Answer
 surveyed s = rule.answered [] (rule.salvaged s) .0
+
+-- where skips end in s, which stands at place p and whose first k bytes are skipped: at its end, or at the first offset whose byte says version 1
+unfoldable pub skipsEnd : ℕ → ℕ → List ℕ → ℕ
+skipsEnd k p [] = p
+skipsEnd (suc k) p (x ∷ s) = skipsEnd k (suc p) s
+skipsEnd zero p (x ∷ s) = elim (eqb (x / 16) 1) [ true ↦ p | false ↦ skipsEnd 3 (suc p) s ]
 
 -- the stretch that a skip at place p belongs to, and where it begins, behind `count` stretches of which the last runs from `last` to `end`
 unfoldable pub slotOf : ℕ → ℕ → ℕ → ℕ

@@ -5,13 +5,13 @@ use refusal::Refusal;
 use refusal::Why;
 ghost use mathlib.Core.Path.{_≡_};
 ghost use mathlib.Core.List.{[]};
-ghost use Prim.Native.Nat.{_≤_, min};
-ghost use lib.ListN.{length};
+ghost use Prim.Native.Nat.{_≤_, _<_, min};
+ghost use lib.ListN.{length, drop};
 ghost use lib.Seq.{sets};
 ghost use Rattle.rules.specs.Outcome.{bad};
 ghost use Rattle.refusal.specs.Numbers.{numberOf};
 ghost use Rattle.salvage.specs.Salvage as rule;
-ghost use Rattle.salvage.specs.Told.{noStretch, stretchOf, report, told, surveyed, slotOf, startOf, reported, Fit};
+ghost use Rattle.salvage.specs.Told.{noStretch, stretchOf, report, told, surveyed, skipsEnd, slotOf, startOf, reported, Fit};
 ghost use Rattle.salvage.specs.Claims.{without};
 
 // A stretch that was skipped: where it starts, and how many bytes it has.
@@ -69,6 +69,21 @@ fn skip_of(left: usize) -> usize
     if left < 4 { left } else { 4 }
 }
 
+// Where the skips that begin at place `at` end. No message begins with a byte that does not say version 1, so that none is looked for at such an offset.
+fn skips_end(s: &[u8], at: usize) -> usize
+    requires { ⌜ at < length (now s) ⌝ }
+    ensures { λ r. ⌜ r ≡ skipsEnd 4 at (drop at (now (s .entry))) ⌝ }
+{
+    let mut end = at + skip_of(s.len() - at);
+    while end < s.len() {
+        if s[end] / 16 == 1 {
+            return end;
+        }
+        end += skip_of(s.len() - end);
+    }
+    end
+}
+
 // Which stretch a skip at place `at` belongs to: the last of `count`, if that ends there, or one more.
 fn slot_of(count: usize, end: usize, at: usize) -> usize
     requires { ⌜ count ≤ 64 ⌝ }
@@ -117,7 +132,7 @@ fn survey(s: &[u8]) -> Salvaged
                     return refuse(Why::Holes, at);
                 }
                 last = start_of(count, last, end, at);
-                end = at + skip_of(s.len() - at);
+                end = skips_end(s, at);
                 stretches[slot] = stretch_of(last, end);
                 count = slot + 1;
                 at = end;

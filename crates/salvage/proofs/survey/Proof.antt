@@ -1,12 +1,15 @@
 -- `salvage::survey` meets its contract: what is before `at` is surveyed, and a 65th stretch ends the survey.
 use borrow.Author.Needs.{needs}
-use mathlib.Core.Path.{refl, sym, ap, _∙_}
-use Prim.Native.Nat.{ℕ, _+_, _-_, _≤_}
+use mathlib.Core.Path.{sym, ap, _∙_}
+use Prim.Native.Nat.{ℕ, _-_, _≤_, _<_}
 use native.Mathlib.Omega.{arith}
-use lib.ListN.{length}
+use lib.ListN.{length, drop}
+use mathlib.Core.List.{List}
 use Rattle.message.specs.Answers.{spotOfMessage, toldMessage}
-use Rattle.salvage.specs.Told.{stretchIn}
-use Rattle.salvage.proofs.Surveying.{Surveying, kept-at, lost-at, survey-start, survey-kept, on, start-before, slot-most, survey-lost, survey-full, survey-ended, survey-large}
+use Rattle.salvage.specs.Told.{skipsEnd, slotOf, startOf}
+use Rattle.salvage.proofs.Pieces.{Lost}
+use Rattle.salvage.proofs.Skips.{inside}
+use Rattle.salvage.proofs.Surveying.{Surveying, KeptAt, kept-at, lost-at, survey-start, survey-kept, start-before, slot-most, survey-skips, survey-full, survey-ended, survey-large}
 use Rattle.salvage.proofs.survey.Statement.{statement}
 use Rattle.salvage.proofs.survey.Tie as tie
 
@@ -15,6 +18,29 @@ Inv-loop s stretches₀ count₀ last₀ end₀ bytes₀ messages₀ at₀ stret
 
 abbrev μ-loop : tie.MeasureT-loop
 μ-loop s stretches₀ count₀ last₀ end₀ bytes₀ messages₀ at₀ stretches count last end bytes messages at = length s - at
+
+-- the message that was found
+kept : (c : tie.After-struct-known Inv-loop μ-loop) → KeptAt (c .before .before .before .before .before .before .before .before .before .before .args .s .now) (c .before .before .before .before .before .before .loop .at) (c .before .before .m .given .0 .0 .next)
+kept c = kept-at (c .before .before .before .before .before .before .before .before .before .before .args .s .now) (c .before .before .before .before .before .before .loop .at) (spotOfMessage (c .before .before .m .given .0 .0)) (c .before .before .before .before .before .loop-test .taken) (ap toldMessage (sym (c .before .before .m .given .1)) ∙ c .before .before .before .before .message-at .ensures)
+
+-- none was found
+module _ (c : tie.After-enum-told Inv-loop μ-loop) where
+  abbrev input : List ℕ
+  input = c .before .before .before .before .before .before .before .before .args .s .now
+
+  abbrev place : ℕ
+  place = c .before .before .before .before .loop .at
+
+  lost : Lost input place
+  lost = lost-at input place (c .before .before .before .before .loop .inv .0) (ap toldMessage (sym (c .enum-told .given .1)) ∙ c .before .before .message-at .ensures)
+
+  -- the skips end behind the place, and the stretch begins at the place or before
+  behind : (startOf (c .before .before .before .before .loop .count) (c .before .before .before .before .loop .last) (c .before .before .before .before .loop .end) place ≤ place) × ((place < skipsEnd 4 place (drop place input)) × (skipsEnd 4 place (drop place input) ≤ length input))
+  behind = (start-before _ _ _ _ _ _ _ _ (c .before .before .before .before .loop .inv .1) (c .before .before .before .loop-test .taken) lost, inside input place (c .before .before .before .loop-test .taken))
+
+-- it is not the 65th
+room : (c : tie.Else2 Inv-loop μ-loop) → slotOf (c .before .before .before .before .before .before .loop .count) (c .before .before .before .before .before .before .loop .end) (c .before .before .before .before .before .before .loop .at) < 64
+room c = let o = slot-most _ _ _ _ _ _ _ _ (c .before .before .before .before .before .before .loop .inv .1) (c .before .before .before .before .before .loop-test .taken) (lost (c .before .before)) in omega (arith, o, c .before .slot-of .ensures)
 
 refuse-requires : tie.Need-refuse-requires Inv-loop μ-loop
 refuse-requires c κs = tt
@@ -35,19 +61,21 @@ enum-known-m : tie.Need-enum-known-m Inv-loop μ-loop
 enum-known-m c = search needs
 
 sub-bytes : tie.Need-sub-bytes Inv-loop μ-loop
-sub-bytes c = let k = kept-at (c .before .before .before .before .before .before .before .before .before .before .args .s .now) (c .before .before .before .before .before .before .loop .at) (spotOfMessage (c .before .before .m .given .0 .0)) (c .before .before .before .before .before .loop-test .taken) (ap toldMessage (sym (c .before .before .m .given .1)) ∙ c .before .before .before .before .message-at .ensures) in omega (arith, k .next)
+sub-bytes c = let k = kept c in omega (arith, k .next)
 
 add-bytes : tie.Need-add-bytes Inv-loop μ-loop
-add-bytes c = let k = kept-at (c .before .before .before .before .before .before .before .before .before .before .args .s .now) (c .before .before .before .before .before .before .loop .at) (spotOfMessage (c .before .before .m .given .0 .0)) (c .before .before .before .before .before .loop-test .taken) (ap toldMessage (sym (c .before .before .m .given .1)) ∙ c .before .before .before .before .message-at .ensures) in omega (arith, k .next, k .inside, c .before .before .before .before .before .before .loop .inv .1 .small .0)
+add-bytes c = let k = kept c in omega (arith, k .next, k .inside, c .before .before .before .before .before .before .loop .inv .1 .small .0)
 
 add-messages : tie.Need-add-messages Inv-loop μ-loop
-add-messages c = let k = kept-at (c .before .before .before .before .before .before .before .before .before .before .args .s .now) (c .before .before .before .before .before .before .loop .at) (spotOfMessage (c .before .before .m .given .0 .0)) (c .before .before .before .before .before .loop-test .taken) (ap toldMessage (sym (c .before .before .m .given .1)) ∙ c .before .before .before .before .message-at .ensures) in omega (arith, c .before .before .before .before .before .before .loop .inv .1 .small .1, c .before .before .before .before .before .before .loop .inv .1 .inside)
+add-messages c = omega (arith, c .before .before .before .before .before .before .loop .inv .1 .small .1, c .before .before .before .before .before .before .loop .inv .1 .inside)
 
 loop-less : tie.Need-loop-less Inv-loop μ-loop
-loop-less c = let k = kept-at (c .before .before .before .before .before .before .before .before .before .before .args .s .now) (c .before .before .before .before .before .before .loop .at) (spotOfMessage (c .before .before .m .given .0 .0)) (c .before .before .before .before .before .loop-test .taken) (ap toldMessage (sym (c .before .before .m .given .1)) ∙ c .before .before .before .before .message-at .ensures) in omega (arith, k .next, k .least, k .inside)
+loop-less c = let k = kept c in omega (arith, k .next, k .least, k .inside)
 
 loop-again : tie.Need-loop-again Inv-loop μ-loop
-loop-again c = let v = c .before .before .before .before .before .before .loop in (v .inv .0, survey-kept _ _ _ _ _ _ _ _ (v .inv .1) (c .before .before .before .before .before .loop-test .taken) _ (kept-at (c .before .before .before .before .before .before .before .before .before .before .args .s .now) (c .before .before .before .before .before .before .loop .at) (spotOfMessage (c .before .before .m .given .0 .0)) (c .before .before .before .before .before .loop-test .taken) (ap toldMessage (sym (c .before .before .m .given .1)) ∙ c .before .before .before .before .message-at .ensures)))
+loop-again c =
+    let v = c .before .before .before .before .before .before .loop in
+    (v .inv .0, survey-kept _ _ _ _ _ _ _ _ (v .inv .1) (c .before .before .before .before .before .loop-test .taken) _ (kept c))
 
 enum-told : tie.Need-enum-told Inv-loop μ-loop
 enum-told c = search needs
@@ -59,37 +87,33 @@ refuse-requires-2 : tie.Need-refuse-requires-2 Inv-loop μ-loop
 refuse-requires-2 c κs = tt
 
 returns-2 : tie.Need-returns-2 Inv-loop μ-loop
-returns-2 c = c .refuse2 .ensures ∙ survey-full (c .before .before .before .before .before .before .before .before .before .before .before .args .s .now) _ _ _ _ _ _ _ (c .before .before .before .before .before .before .before .loop .inv .1) (c .before .before .before .before .before .before .loop-test .taken) _ refl (lost-at (c .before .before .before .before .before .before .before .before .before .before .before .args .s .now) (c .before .before .before .before .before .before .before .loop .at) (c .before .before .before .before .before .before .before .loop .inv .0) (ap toldMessage (sym (c .before .before .before .enum-told .given .1)) ∙ c .before .before .before .before .before .message-at .ensures)) (sym (c .before .before .slot-of .ensures) ∙ c .before .if2 .taken) (c .before .before .before .before .before .before .before .loop .inv .0)
+returns-2 c = c .refuse2 .ensures ∙ survey-full _ _ _ _ _ _ _ _ (c .before .before .before .before .before .before .before .loop .inv .1) (c .before .before .before .before .before .before .loop-test .taken) (lost (c .before .before .before)) (sym (c .before .before .slot-of .ensures) ∙ c .before .if2 .taken) (c .before .before .before .before .before .before .before .loop .inv .0)
 
 start-of-requires : tie.Need-start-of-requires Inv-loop μ-loop
 start-of-requires c κs = tt
 
-sub-skip-of : tie.Need-sub-skip-of Inv-loop μ-loop
-sub-skip-of c = omega (arith, c .before .before .before .before .before .before .before .loop .inv .1 .inside)
-
-skip-of-requires : tie.Need-skip-of-requires Inv-loop μ-loop
-skip-of-requires c κs = tt
-
-add-end : tie.Need-add-end Inv-loop μ-loop
-add-end c = let o = on (c .before .before .before .before .before .before .before .before .before .before .before .before .args .s .now) _ _ _ _ _ _ _ (c .before .before .before .before .before .before .before .before .loop .inv .1) (c .before .before .before .before .before .before .before .loop-test .taken) _ (c .skip-of .ensures) (lost-at (c .before .before .before .before .before .before .before .before .before .before .before .before .args .s .now) (c .before .before .before .before .before .before .before .before .loop .at) (c .before .before .before .before .before .before .before .before .loop .inv .0) (ap toldMessage (sym (c .before .before .before .before .enum-told .given .1)) ∙ c .before .before .before .before .before .before .message-at .ensures)) in omega (arith, o .1)
+skips-end-requires : tie.Need-skips-end-requires Inv-loop μ-loop
+skips-end-requires c κs = c .before .before .before .before .before .before .loop-test .taken
 
 stretch-of-requires : tie.Need-stretch-of-requires Inv-loop μ-loop
-stretch-of-requires c κs = let o = start-before (c .before .before .before .before .before .before .before .before .before .before .before .before .args .s .now) _ _ _ _ _ _ _ (c .before .before .before .before .before .before .before .before .loop .inv .1) (c .before .before .before .before .before .before .before .loop-test .taken) _ (c .skip-of .ensures) (lost-at (c .before .before .before .before .before .before .before .before .before .before .before .before .args .s .now) (c .before .before .before .before .before .before .before .before .loop .at) (c .before .before .before .before .before .before .before .before .loop .inv .0) (ap toldMessage (sym (c .before .before .before .before .enum-told .given .1)) ∙ c .before .before .before .before .before .before .message-at .ensures)) in omega (arith, c .before .start-of .ensures)
+stretch-of-requires c κs = let (a, b) = behind (c .before .before .before .before) in omega (arith, c .before .start-of .ensures, c .skips-end .ensures, a, b .0)
 
 mul-stretches : tie.Need-mul-stretches Inv-loop μ-loop
-mul-stretches c = let o = slot-most (c .before .before .before .before .before .before .before .before .before .before .before .before .before .args .s .now) _ _ _ _ _ _ _ (c .before .before .before .before .before .before .before .before .before .loop .inv .1) (c .before .before .before .before .before .before .before .before .loop-test .taken) _ (c .before .skip-of .ensures) (lost-at (c .before .before .before .before .before .before .before .before .before .before .before .before .before .args .s .now) (c .before .before .before .before .before .before .before .before .before .loop .at) (c .before .before .before .before .before .before .before .before .before .loop .inv .0) (ap toldMessage (sym (c .before .before .before .before .before .enum-told .given .1)) ∙ c .before .before .before .before .before .before .before .message-at .ensures)) in omega (arith, c .before .before .before .before .slot-of .ensures)
+mul-stretches c = let h = room (c .before .before .before) in omega (arith, h, c .before .before .before .before .slot-of .ensures)
 
 array-set-from-stretches : tie.Need-array-set-from-stretches Inv-loop μ-loop
-array-set-from-stretches c = let o = slot-most (c .before .before .before .before .before .before .before .before .before .before .before .before .before .args .s .now) _ _ _ _ _ _ _ (c .before .before .before .before .before .before .before .before .before .loop .inv .1) (c .before .before .before .before .before .before .before .before .loop-test .taken) _ (c .before .skip-of .ensures) (lost-at (c .before .before .before .before .before .before .before .before .before .before .before .before .before .args .s .now) (c .before .before .before .before .before .before .before .before .before .loop .at) (c .before .before .before .before .before .before .before .before .before .loop .inv .0) (ap toldMessage (sym (c .before .before .before .before .before .enum-told .given .1)) ∙ c .before .before .before .before .before .before .before .message-at .ensures)) in omega (arith, c .before .before .before .before .slot-of .ensures)
+array-set-from-stretches c = let h = room (c .before .before .before) in omega (arith, h, c .before .before .before .before .slot-of .ensures)
 
 add-count : tie.Need-add-count Inv-loop μ-loop
-add-count c = let o = slot-most (c .before .before .before .before .before .before .before .before .before .before .before .before .before .args .s .now) _ _ _ _ _ _ _ (c .before .before .before .before .before .before .before .before .before .loop .inv .1) (c .before .before .before .before .before .before .before .before .loop-test .taken) _ (c .before .skip-of .ensures) (lost-at (c .before .before .before .before .before .before .before .before .before .before .before .before .before .args .s .now) (c .before .before .before .before .before .before .before .before .before .loop .at) (c .before .before .before .before .before .before .before .before .before .loop .inv .0) (ap toldMessage (sym (c .before .before .before .before .before .enum-told .given .1)) ∙ c .before .before .before .before .before .before .before .message-at .ensures)) in omega (arith, c .before .before .before .before .slot-of .ensures)
+add-count c = let h = room (c .before .before .before) in omega (arith, h, c .before .before .before .before .slot-of .ensures)
 
 loop-less-2 : tie.Need-loop-less-2 Inv-loop μ-loop
-loop-less-2 c = let o = on (c .before .before .before .before .before .before .before .before .before .before .before .before .before .args .s .now) _ _ _ _ _ _ _ (c .before .before .before .before .before .before .before .before .before .loop .inv .1) (c .before .before .before .before .before .before .before .before .loop-test .taken) _ (c .before .skip-of .ensures) (lost-at (c .before .before .before .before .before .before .before .before .before .before .before .before .before .args .s .now) (c .before .before .before .before .before .before .before .before .before .loop .at) (c .before .before .before .before .before .before .before .before .before .loop .inv .0) (ap toldMessage (sym (c .before .before .before .before .before .enum-told .given .1)) ∙ c .before .before .before .before .before .before .before .message-at .ensures)) in omega (arith, o .0, o .1)
+loop-less-2 c = let (a, b) = behind (c .before .before .before .before .before) in omega (arith, c .before .skips-end .ensures, b .0, b .1)
 
 loop-again-2 : tie.Need-loop-again-2 Inv-loop μ-loop
-loop-again-2 c = let v = c .before .before .before .before .before .before .before .before .before .loop in let o = slot-most (c .before .before .before .before .before .before .before .before .before .before .before .before .before .args .s .now) _ _ _ _ _ _ _ (c .before .before .before .before .before .before .before .before .before .loop .inv .1) (c .before .before .before .before .before .before .before .before .loop-test .taken) _ (c .before .skip-of .ensures) (lost-at (c .before .before .before .before .before .before .before .before .before .before .before .before .before .args .s .now) (c .before .before .before .before .before .before .before .before .before .loop .at) (c .before .before .before .before .before .before .before .before .before .loop .inv .0) (ap toldMessage (sym (c .before .before .before .before .before .enum-told .given .1)) ∙ c .before .before .before .before .before .before .before .message-at .ensures)) in (v .inv .0, rw (c .before .before .before .before .slot-of .ensures, c .before .before .start-of .ensures) (survey-lost (c .before .before .before .before .before .before .before .before .before .before .before .before .before .args .s .now) _ _ _ _ _ _ _ (c .before .before .before .before .before .before .before .before .before .loop .inv .1) (c .before .before .before .before .before .before .before .before .loop-test .taken) _ (c .before .skip-of .ensures) (lost-at (c .before .before .before .before .before .before .before .before .before .before .before .before .before .args .s .now) (c .before .before .before .before .before .before .before .before .before .loop .at) (c .before .before .before .before .before .before .before .before .before .loop .inv .0) (ap toldMessage (sym (c .before .before .before .before .before .enum-told .given .1)) ∙ c .before .before .before .before .before .before .before .message-at .ensures)) _ (omega (arith, c .before .before .before .before .slot-of .ensures)) (ap stretchIn (c .stretch-of .ensures) ∙ ap (λ (k : ℕ). record { start = k; size = c .before .before .before .before .before .before .before .before .before .loop .at + c .before .skip-of .result - k }) (c .before .before .start-of .ensures))))
+loop-again-2 c =
+    let v = c .before .before .before .before .before .before .before .before .before .loop in
+    (v .inv .0, rw (c .stretch-of .ensures, c .before .skips-end .ensures, c .before .before .before .before .slot-of .ensures, c .before .before .start-of .ensures) (survey-skips _ _ _ _ _ _ _ _ (v .inv .1) (c .before .before .before .before .before .before .before .before .loop-test .taken) (lost (c .before .before .before .before .before)) (room (c .before .before .before))))
 
 returns-3 : tie.Need-returns-3 Inv-loop μ-loop
 returns-3 c = let v = c .before .loop in survey-ended _ _ _ _ _ _ _ _ (v .inv .1) (v .inv .0) (search needs)
@@ -116,9 +140,7 @@ survey-spec =
     refuse-requires-2
     returns-2
     start-of-requires
-    sub-skip-of
-    skip-of-requires
-    add-end
+    skips-end-requires
     stretch-of-requires
     mul-stretches
     array-set-from-stretches
