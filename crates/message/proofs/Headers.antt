@@ -1,6 +1,6 @@
 -- Checks 1 to 7, a header alone, and where its option run lies.
 use Prim.Native.Nat.{ℕ, _+_, _-_, _*_, _≤_, _<_}
-use mathlib.Core.Path.{_≡_, sym, ap, subst}
+use mathlib.Core.Path.{_≡_, refl, sym, ap, ap₂, subst, _∙_}
 use mathlib.Core.List.{List, []}
 use native.Mathlib.Omega.{arith}
 use borrow.Author.Tests.{lt-ltb, le-ltb}
@@ -14,9 +14,9 @@ use Rattle.rules.proofs.Outcomes.{pass, halt, step, stop, after, stop-before, c
 use Rattle.rules.proofs.Run.{run-ends}
 use Rattle.rules.proofs.Passed.{Sound, sound}
 use Rattle.message.proofs.Checks.{short}
-use Rattle.message.specs.Answers.{headOf, headerOf, headOfHeader, headerHere, Opened, toldHeader}
+use Rattle.message.specs.Answers.{testedIn, headOf, headerOf, headOfHeader, headerHere, Opened, toldHeader}
 use Rattle.rules.specs.Reading.{optionRun, optionStart}
-use Rattle.message.specs.declared.Raw.{Raw}
+use Rattle.message.specs.declared.Tested.{Tested}
 use Rattle.message.specs.declared.Header.{Header}
 use Rattle.message.specs.declared.HeaderRead.the-variants as headerRead
 
@@ -46,24 +46,33 @@ module _ (p : ℕ) (s : List ℕ) (h : Head) where
   unfolding optionRunLength
   header-sound e = sound p s h (came-after _ _ e .0)
 
+-- the numbers of a header that passes
+whole : (k : Head) (n : ℕ) → k .version ≡ 1 → k .kind ≡ 0 → headOfHeader (headerOf (testedIn k) k n) ≡ k
+whole k n e f =
+    ap₂ (λ (v t : ℕ). record { version = v; words = k .words; kind = t; flags = k .flags; id = k .id; sequence = k .sequence; size = k .size; seconds = k .seconds; nanos = k .nanos }) (sym e) (sym f)
+
 -- the header of the message at the start of s
 module _ (p : ℕ) (s : List ℕ) where
   pub short-header : length s < 24 → bad SHORT p ≡ headerHere p s
   unfolding headerHere optionRunLength
   short-header a = sym (stop _ _ (stop-before _ _ (sym (short p s (head s) a))))
 
-  module _ (h : Raw) (eh : headOf h ≡ head s) where
+  module _ (h : Tested) (eh : h ≡ testedIn (head s)) where
+    -- checks 1 to 7 look at no other number
+    same-checks : optionRunLength p s (headOf h) ≡ optionRunLength p s (head s)
+    unfolding optionRunLength checksOneToSix
+    same-checks = ap (λ (x : Tested). optionRunLength p s (headOf x)) eh
+
     pub not-read : {n q : ℕ} → bad n q ≡ optionRunLength p s (headOf h) → bad n q ≡ headerHere p s
     unfolding headerHere
-    not-read e = sym (stop _ _ (rw (← eh) (sym e)))
+    not-read e = sym (stop _ _ (sym (e ∙ same-checks)))
 
-    pub read : (n : ℕ) (r : Header) → good n ≡ optionRunLength p s (headOf h) → r ≡ headerOf h n → toldHeader (headerRead.Header r) ≡ headerHere p s
+    pub read : (n : ℕ) (r : Header) → good n ≡ optionRunLength p s (headOf h) → r ≡ headerOf h (head s) n → toldHeader (headerRead.Header r) ≡ headerHere p s
     unfolding headerHere
     read n r e er =
-        let d = header-sound p s (headOf h) (sym e) in
-        let o : optionRunLength p s (head s) ≡ good n = rw (← eh) (sym e) in
-        let g : good (headOf h, n) ≡ headerHere p s = sym (step _ _ o (rw (← eh))) in
-        rw er (rw (d .version, d .kind) at g)
+        let o : optionRunLength p s (head s) ≡ good n = sym (e ∙ same-checks) in
+        let d = header-sound p s (head s) o in
+        ap (λ (x : Header). toldHeader (headerRead.Header x)) (er ∙ ap (λ (x : Tested). headerOf x (head s) n) eh) ∙ ap (λ (k : Head). good (k, n)) (whole (head s) n (d .version) (d .kind)) ∙ sym (step _ _ o refl)
 
   -- where it is refused, checks 1 to 7 refuse it
   pub unread : {n q : ℕ} → bad n q ≡ headerHere p s → optionRunLength p s (head s) ≡ bad n q

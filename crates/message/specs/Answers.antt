@@ -15,7 +15,7 @@ use Rattle.rules.specs.Message.{headerBytes, notLarge, Head, head, standardBit,
 use Rattle.rules.specs.Reading.{MessageSpot, messageSpot}
 use Rattle.rules.specs.Walk.{PackageSpot}
 use Rattle.refusal.specs.Numbers.{numberOf, refused}
-use Rattle.message.specs.declared.Raw.{Raw}
+use Rattle.message.specs.declared.Tested.{Tested}
 use Rattle.message.specs.declared.Header.{Header}
 use Rattle.message.specs.declared.Package.{Package}
 use Rattle.message.specs.declared.Message.{Message}
@@ -41,28 +41,32 @@ use Rattle.message.specs.declared.Checked.the-variants as checked
 
 -- ---- inside the crate
 
--- a header's numbers before any check
-abbrev pub headOf : Raw → Head
+-- the numbers of a header that checks 1 to 6 test; and a header that has these, and zero for the others
+abbrev pub testedIn : Head → Tested
+testedIn h = record { version = h .version; words = h .words; kind = h .kind; size = h .size; nanos = h .nanos }
+
+abbrev pub headOf : Tested → Head
 headOf h = record {
   version = h .version;
   words = h .words;
   kind = h .kind;
-  flags = h .flags;
-  id = h .id .0;
-  sequence = h .sequence;
+  flags = 0;
+  id = 0;
+  sequence = 0;
   size = h .size;
-  seconds = h .seconds;
+  seconds = 0;
   nanos = h .nanos;
 }
 
-abbrev pub headerOf : Raw → ℕ → Header
-headerOf h n = record {
+-- these numbers, and the others of a header k
+abbrev pub headerOf : Tested → Head → ℕ → Header
+headerOf h k n = record {
   words = h .words;
-  flags = h .flags;
-  id = h .id;
-  sequence = h .sequence;
+  flags = k .flags;
+  id = record { 0 = k .id };
+  sequence = k .sequence;
   length = h .size;
-  seconds = h .seconds;
+  seconds = k .seconds;
   nanos = h .nanos;
   run = n;
 }

@@ -91,39 +91,27 @@ fn wide32(x: u32) -> usize
     x as usize
 }
 
-// A header's numbers before any check.
-struct Raw {
+// The numbers of a header that checks 1 to 6 test. The others are read once these and check 7 have passed.
+struct Tested {
     version: u8,
     words: u8,
     kind: u8,
-    flags: u8,
-    id: Mdid,
-    sequence: u32,
     size: u32,
-    seconds: u32,
     nanos: u32,
 }
 
-fn raw_of(m: &[u8]) -> Raw
-    ensures { λ r. ⌜ spec.headOf r ≡ rule.head (now (m .entry)) ⌝ }
+fn tested_in(m: &[u8]) -> Tested
+    ensures { λ r. ⌜ r ≡ spec.testedIn (rule.head (now (m .entry))) ⌝ }
 {
     let first = wire::byte_at(m, 0);
     let second = wire::byte_at(m, 1);
-    let flags = wire::byte_at(m, 3);
-    let id = Mdid(wire::word_at(m, 4));
-    let sequence = wire::word_at(m, 8);
     let size = wire::word_at(m, 12);
-    let seconds = wire::word_at(m, 16);
     let nanos = wire::word_at(m, 20);
-    Raw {
+    Tested {
         version: first / 16,
         words: first % 16,
         kind: second % 16,
-        flags,
-        id,
-        sequence,
         size,
-        seconds,
         nanos,
     }
 }
@@ -148,7 +136,7 @@ fn shut(why: Why, place: usize) -> Gate
 }
 
 // Checks 1 to 6 of the message at the start of m, which stands at place p.
-fn checks_one_to_six(m: &[u8], h: Raw, p: usize) -> Gate
+fn checks_one_to_six(m: &[u8], h: Tested, p: usize) -> Gate
     ensures { λ r. ⌜ spec.toldGate r ≡ rule.checksOneToSix p (now (m .entry)) (spec.headOf h) ⌝ }
 {
     if m.len() < 24 {
@@ -361,7 +349,7 @@ fn count_said(o: &[u8]) -> Said
 }
 
 // Checks 1 to 7 of the message at the start of m, which stands at place p: how long its option run is.
-fn checks_one_to_seven(m: &[u8], h: Raw, p: usize) -> Count
+fn checks_one_to_seven(m: &[u8], h: Tested, p: usize) -> Count
     requires { ⌜ p + length (now m) < 4294967296 ⌝ }
     ensures { λ r. ⌜ spec.toldCount r ≡ rule.optionRunLength p (now (m .entry)) (spec.headOf h) ⌝ }
 {
@@ -374,17 +362,21 @@ fn checks_one_to_seven(m: &[u8], h: Raw, p: usize) -> Count
     }
 }
 
-fn header_of(h: Raw, run: usize) -> Header
-    ensures { λ r. ⌜ r ≡ spec.headerOf h run ⌝ }
+// The header at the start of m, whose tested numbers are h, with an option run of so many bytes.
+fn header_of(m: &[u8], h: Tested, run: usize) -> Header
+    ensures { λ r. ⌜ r ≡ spec.headerOf h (rule.head (now (m .entry))) run ⌝ }
 {
-    let id = h.id;
+    let flags = wire::byte_at(m, 3);
+    let id = Mdid(wire::word_at(m, 4));
+    let sequence = wire::word_at(m, 8);
+    let seconds = wire::word_at(m, 16);
     Header {
         words: h.words,
-        flags: h.flags,
+        flags,
         id,
-        sequence: h.sequence,
+        sequence,
         length: h.size,
-        seconds: h.seconds,
+        seconds,
         nanos: h.nanos,
         run,
     }
@@ -401,10 +393,10 @@ fn header_here(m: &[u8], p: usize) -> HeaderRead
             place: p,
         });
     }
-    let h = raw_of(m);
+    let h = tested_in(m);
     match checks_one_to_seven(m, h, p) {
         Count::Refused(r) => HeaderRead::Refused(r),
-        Count::Number(n) => HeaderRead::Header(header_of(h, n)),
+        Count::Number(n) => HeaderRead::Header(header_of(m, h, n)),
     }
 }
 

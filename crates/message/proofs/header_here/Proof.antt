@@ -9,8 +9,8 @@ use Rattle.message.proofs.header_here.Tie as tie
 returns : tie.Need-returns
 returns c = short-header _ _ (search needs)
 
-raw-of-requires : tie.Need-raw-of-requires
-raw-of-requires c κs = search needs
+tested-in-requires : tie.Need-tested-in-requires
+tested-in-requires c κs = search needs
 
 checks-one-to-seven-requires : tie.Need-checks-one-to-seven-requires
 checks-one-to-seven-requires c κs = search needs
@@ -25,17 +25,17 @@ header-of-requires : tie.Need-header-of-requires
 header-of-requires c κs = search needs
 
 returns-2 : tie.Need-returns-2
-returns-2 c = not-read _ _ _ (c .before .before .before .before .raw-of .ensures) (ap toldCount (sym (c .before .r .given .1)) ∙ c .before .before .before .checks-one-to-seven .ensures)
+returns-2 c = not-read _ _ _ (c .before .before .before .before .tested-in .ensures) (ap toldCount (sym (c .before .r .given .1)) ∙ c .before .before .before .checks-one-to-seven .ensures)
 
 returns-3 : tie.Need-returns-3
-returns-3 c = read _ _ _ (c .before .before .before .before .before .raw-of .ensures) _ _ (ap toldCount (sym (c .before .before .n .given .1)) ∙ c .before .before .before .before .checks-one-to-seven .ensures) (c .header-of .ensures)
+returns-3 c = read _ _ _ (c .before .before .before .before .before .tested-in .ensures) _ _ (ap toldCount (sym (c .before .before .n .given .1)) ∙ c .before .before .before .before .checks-one-to-seven .ensures) (c .header-of .ensures)
 
 pub header-here-spec : {M : Type 1} → statement M
 header-here-spec =
     tie.close
     (tie.spec
     returns
-    raw-of-requires
+    tested-in-requires
     checks-one-to-seven-requires
     enum-known-r
     enum-known-n
