@@ -6,7 +6,7 @@ use mathlib.Core.Bool.{Bool, true, false, not, _&&_, _||_}
 use mathlib.Core.List.{List, [], _∷_, _++_, map}
 use native.Mathlib.Nat.{add-zero}
 use native.Mathlib.Omega.{arith}
-use borrow.Author.Tests.{ltb-true, leb-true, leb-false, lt-ltb, le-leb, lt-leb}
+use borrow.Author.Tests.{ltb-true, leb-true, leb-false, lt-ltb, le-ltb, le-leb, lt-leb}
 use lib.Dec.{leb, ltb}
 use lib.ListN.{length}
 use Rattle.rules.specs.Outcome.{good, bad}
@@ -16,6 +16,7 @@ use Rattle.rules.proofs.Outcomes.{pass, passed, halt, fronted, front-of, refuse
 use Rattle.ids.specs.Line.{Item}
 use Rattle.ids.specs.Reader.{mostItems, itemFits, rangesOf, Range}
 use Rattle.ids.specs.Claims.{Fits, rangeOf}
+use Rattle.ids.specs.Parts.{pairFits}
 
 pub fits-is : (i : Item) → itemFits i ≡ true → Fits i
 unfolding itemFits
@@ -30,6 +31,21 @@ fits-yes i f = rw (lt-ltb (i .first) (2 ^ 32) (f .first), lt-ltb (i .last) (2 ^ 
 
 pub fits-not : (i : Item) → itemFits i ≡ false → Fits i → ⊥
 fits-not i e f = let z : true ≡ false = sym (fits-yes i f) ∙ e in let y : _≡_ {A = ℕ} 0 1 = cc in omega arith
+
+-- the tests, one by one
+module _ (a b : ℕ) where
+  pub first-large : 2 ^ 32 ≤ a → false ≡ pairFits a b
+  unfolding itemFits
+  first-large l = rw (le-ltb a (2 ^ 32) l)
+
+  module _ (x : a < 2 ^ 32) where
+    pub last-large : 2 ^ 32 ≤ b → false ≡ pairFits a b
+    unfolding itemFits
+    last-large l = rw (lt-ltb a (2 ^ 32) x, le-ltb b (2 ^ 32) l)
+
+    pub in-order : b < 2 ^ 32 → leb a b ≡ pairFits a b
+    unfolding itemFits
+    in-order y = rw (lt-ltb a (2 ^ 32) x, lt-ltb b (2 ^ 32) y)
 
 -- the test of an item with n before it
 judged : (i : Item) (n : ℕ) → (not (itemFits i) || leb mostItems n) ≡ false → Fits i × (n < mostItems)

@@ -1,5 +1,5 @@
 -- What the two readers answer, item by item.
-use Prim.Native.Nat.{ℕ, suc, _+_, _-_, _≤_, _<_, _^_}
+use Prim.Native.Nat.{ℕ, zero, suc, _+_, _-_, _*_, _≤_, _<_}
 use mathlib.Core.Path.{_≡_, refl, sym, ap, _∙_}
 use mathlib.Core.Bool.{Bool, true, false, not, _||_}
 use mathlib.Core.List.{List, [], _∷_, _++_, map, append-nil, append-assoc}
@@ -7,21 +7,21 @@ use native.Mathlib.Numerals.{add-one}
 use native.Mathlib.Omega.{arith}
 use borrow.Author.Tests.{le-ltb, lt-ltb, lt-leb}
 use lib.Dec.{leb}
-use lib.ListN.{length, take, drop, set, replicate, length-append, length-map}
-use lib.Seq.{set-at, take-at}
+use lib.ListN.{length, getD, take, drop, set, replicate, length-append, length-set, take-append-drop}
+use lib.Seq.{set-at, take-all, length-take-le, drop-nil, drop-drop, drop-set-lt}
 use Rattle.rules.specs.Outcome.{Outcome, good, bad, _>>=_, _∷>_, LARGE}
 use Rattle.rules.specs.Bytes.{at}
 use Rattle.refusal.specs.Numbers.{TEXT}
 use Rattle.rules.proofs.Outcomes.{pass, halt, step, stop, bad-inj, good≢bad}
-use Rattle.rules.proofs.Growing.{map-append, map-replicate}
 use Rattle.ids.specs.Line.{Item, comma}
 use Rattle.ids.specs.Reader.{Range, mostItems, noRange, itemFits, itemAt, listAt, rangesOf, idRanges, handedOut, readIds, shownRanges}
 use Rattle.ids.specs.Claims.{rangeOf}
 use Rattle.ids.specs.Told.{rangeIn, answer, told}
-use Rattle.ids.specs.Parts.{noIds, restAt, formOf, readOn, faultAt, Held}
+use Rattle.ids.specs.Parts.{restAt, formOf, readOn, faultAt, pairFits, rangesIn, withRange, Held, lineTold, noIds}
+use Rattle.rules.proofs.Growing.{map-append}
 use Rattle.ids.specs.declared.IdRange.{IdRange}
+use Rattle.ids.specs.declared.LineRead.{LineRead}
 use Rattle.ids.specs.declared.IdsAnswer.the-variants as Answer
-use Rattle.ids.proofs.Ranges.{fits-yes}
 use Rattle.ids.proofs.Steps.{rest-none, rest-odd, rest-list, list-broken, list-then}
 
 module _ (done : List Range) where
@@ -70,92 +70,162 @@ unfolding formOf faultAt _>>=_
 fault-bad p q (good is) e = absurd (good≢bad e)
 fault-bad p q (bad n r) e = let (a, b) = bad-inj e in rw (a, b)
 
--- the ranges that are held
-pub held-start : Held (replicate 32 noIds) 0
-held-start = record { few = omega arith; done = []; many = refl; filled = refl }
+-- ---- the ranges that are held
 
-module _ (ranges : List IdRange) (n : ℕ) (held : Held ranges n) where
+-- numbers of ranges: how many ranges they are, those behind the first n, and those that are all zero
+pairs-length : (k : ℕ) (l : List ℕ) → length l ≡ 2 * k → length (rangesIn l) ≡ k
+unfolding rangesIn
+pairs-length zero [] e = refl
+pairs-length zero (a ∷ l) e = absurd (omega arith)
+pairs-length (suc k) [] e = absurd (omega arith)
+pairs-length (suc k) (a ∷ []) e = absurd (omega arith)
+pairs-length (suc k) (a ∷ b ∷ l) e = ap suc (pairs-length k l (omega arith))
+
+pairs-behind : (n : ℕ) (l : List ℕ) → drop n (rangesIn l) ≡ rangesIn (drop (2 * n) l)
+unfolding rangesIn
+pairs-behind zero l = refl
+pairs-behind (suc n) [] = ap rangesIn (sym (drop-nil (2 * suc n)))
+pairs-behind (suc n) (a ∷ []) = let z : 2 * suc n ≡ suc (suc (2 * n)) = omega arith in rw z (ap rangesIn (sym (drop-nil (suc (2 * n)))))
+pairs-behind (suc n) (a ∷ b ∷ l) = let z : 2 * suc n ≡ suc (suc (2 * n)) = omega arith in rw z (pairs-behind n l)
+
+pairs-zero : (k : ℕ) → rangesIn (replicate (2 * k) 0) ≡ replicate k noRange
+unfolding rangesIn
+pairs-zero zero = refl
+pairs-zero (suc k) = let z : 2 * suc k ≡ suc (suc (2 * k)) = omega arith in rw z (ap (λ (l : List Range). noRange ∷ l) (pairs-zero k))
+
+-- one more
+pairs-more : (n : ℕ) (l : List ℕ) (a b : ℕ) → 2 * n + 1 < length l → take (n + 1) (rangesIn (withRange l n a b)) ≡ take n (rangesIn l) ++ (record { first = a; last = b } ∷ [])
+unfolding rangesIn
+pairs-more n [] a b h = absurd (omega arith)
+pairs-more n (x ∷ []) a b h = absurd (omega arith)
+pairs-more zero (x ∷ y ∷ l) a b h = refl
+pairs-more (suc n) (x ∷ y ∷ l) a b h =
+    let z : 2 * suc n ≡ suc (suc (2 * n)) = omega arith in
+    let w : 2 * suc n + 1 ≡ suc (suc (2 * n + 1)) = omega arith in
+    let k : suc n + 1 ≡ suc (n + 1) = omega arith in
+    rw (w, z, k) (ap (λ (m : List Range). record { first = x; last = y } ∷ m) (pairs-more n l a b (omega arith)))
+
+pub held-start : Held (replicate 64 0) 0
+held-start = record { few = omega arith; long = refl; behind = refl }
+
+module _ (numbers : List ℕ) (n : ℕ) (held : Held numbers n) where
   abbrev seen : List Range
-  seen = map rangeIn (take n ranges)
-
-  taken : take n ranges ≡ held .done
-  taken = rw (held .filled) (take-at (held .done) _ n (held .many))
+  seen = take n (rangesIn numbers)
 
   seen-length : length seen ≡ n
-  seen-length = length-map (take n ranges) rangeIn ∙ rw taken (held .many)
+  seen-length = length-take-le n (rangesIn numbers) (omega (arith, pairs-length 32 numbers (held .long), held .few))
 
-  pub held-told : told (record { answer = Answer.Good; ranges = ranges; count = n }) ≡ answer (good (handedOut seen))
-  unfolding shownRanges
+  pub held-told : good (rangesIn numbers, n) ≡ good (handedOut seen)
   held-told =
-      let m : map rangeIn ranges ≡ seen ++ replicate (mostItems - length seen) noRange =
-      ap (map rangeIn) (held .filled) ∙ rw (seen-length, taken, map-append, map-replicate) in
-      rw (m, seen-length)
+      let m : rangesIn numbers ≡ seen ++ replicate (mostItems - length seen) noRange =
+      sym (take-append-drop n (rangesIn numbers)) ∙ rw (seen-length, pairs-behind, held .behind, pairs-zero) in
+      rw (← m, seen-length)
 
-  module _ (h : n < 32) (r : IdRange) where
-    stored : set ranges n r ≡ (held .done ++ (r ∷ [])) ++ replicate (32 - (n + 1)) noIds
-    stored =
-        let z : 32 - n ≡ suc (32 - (n + 1)) = omega arith in
-        rw (held .filled, z) (set-at (held .done) noIds (replicate (32 - (n + 1)) noIds) r n (held .many) ∙ sym (append-assoc (held .done) (r ∷ []) _))
+  module _ (h : n < 32) (a b : ℕ) where
+    pub held-next : Held (withRange numbers n a b) (n + 1)
+    held-next =
+        let z : 2 * (n + 1) ≡ 2 * n + 2 = omega arith in
+        let k : 2 * (mostItems - n) ≡ suc (suc (2 * (mostItems - (n + 1)))) = omega arith in
+        record {
+          few = omega arith;
+          long = rw (length-set, length-set) (held .long);
+          behind = rw (z, drop-set-lt (2 * n + 2) (set numbers (2 * n) a) (2 * n + 1) b (omega arith), drop-set-lt (2 * n + 2) numbers (2 * n) a (omega arith), ← drop-drop 2 (2 * n) numbers, held .behind, k);
+        }
 
-    longer : length (held .done ++ (r ∷ [])) ≡ n + 1
-    longer = rw (length-append, held .many)
-
-    pub held-next : Held (set ranges n r) (n + 1)
-    held-next = record { few = omega arith; done = held .done ++ (r ∷ []); many = longer; filled = stored }
-
-    seen-next : map rangeIn (take (n + 1) (set ranges n r)) ≡ seen ++ (rangeIn r ∷ [])
-    seen-next = rw (stored, take-at (held .done ++ (r ∷ [])) (replicate (32 - (n + 1)) noIds) (n + 1) longer, taken, map-append)
+    seen-next : take (n + 1) (rangesIn (withRange numbers n a b)) ≡ seen ++ (record { first = a; last = b } ∷ [])
+    seen-next = pairs-more n numbers a b (omega (arith, held .long))
 
   -- the item at place p, and what is answered
   module _ (s : List ℕ) (p : ℕ) where
     abbrev asked : Outcome (List Range × ℕ)
     asked = readOn seen (listAt 0 p (drop p s))
 
-    pub item-broken : {q : ℕ} → itemAt p (drop p s) ≡ bad TEXT q → answer (bad TEXT q) ≡ answer asked
-    item-broken e = ap answer (sym (read-broken seen _ (list-broken s p e)))
+    pub item-broken : {q : ℕ} → itemAt p (drop p s) ≡ bad TEXT q → bad TEXT q ≡ asked
+    item-broken e = sym (read-broken seen _ (list-broken s p e))
 
     module _ (a b k : ℕ) (e : itemAt p (drop p s) ≡ good (record { place = p; first = a; last = b }, k)) where
       abbrev it : Item
       it = record { place = p; first = a; last = b }
 
-      faulty : (not (itemFits it) || leb mostItems n) ≡ true → answer (faultAt p (restAt (p + k) (drop (p + k) s))) ≡ answer asked
-      faulty t = ap answer (sym (ap (readOn seen) (list-then s p it k e) ∙ read-fault seen it _ (rw seen-length t)))
+      faulty : (not (itemFits it) || leb mostItems n) ≡ true → faultAt p (restAt (p + k) (drop (p + k) s)) ≡ asked
+      faulty t = sym (ap (readOn seen) (list-then s p it k e) ∙ read-fault seen it _ (rw seen-length t))
 
-      pub the-33rd : n ≡ 32 → answer (faultAt p (restAt (p + k) (drop (p + k) s))) ≡ answer asked
+      pub the-33rd : n ≡ 32 → faultAt p (restAt (p + k) (drop (p + k) s)) ≡ asked
       the-33rd z = faulty (yes (itemFits it) (rw z))
         where
           yes : (c : Bool) → leb mostItems n ≡ true → (not c || leb mostItems n) ≡ true
           yes true l = l
           yes false l = refl
 
-      pub first-large : 2 ^ 32 ≤ a → answer (faultAt p (restAt (p + k) (drop (p + k) s))) ≡ answer asked
+      pub unfit : pairFits a b ≡ false → faultAt p (restAt (p + k) (drop (p + k) s)) ≡ asked
       unfolding itemFits
-      first-large l = faulty (rw (le-ltb a (2 ^ 32) l))
+      unfit t = faulty (rw t)
 
-      module _ (x : a < 2 ^ 32) where
-        pub last-large : 2 ^ 32 ≤ b → answer (faultAt p (restAt (p + k) (drop (p + k) s))) ≡ answer asked
-        unfolding itemFits
-        last-large l = faulty (rw (lt-ltb a (2 ^ 32) x, le-ltb b (2 ^ 32) l))
-
-        module _ (y : b < 2 ^ 32) where
-          pub inverted : b < a → answer (faultAt p (restAt (p + k) (drop (p + k) s))) ≡ answer asked
-          unfolding itemFits
-          inverted l = faulty (rw (lt-ltb a (2 ^ 32) x, lt-ltb b (2 ^ 32) y, lt-leb a b l))
-
-          pub item-kept : n < 32 → a ≤ b → answer (readOn (map rangeIn (take (n + 1) (set ranges n (record { first = a; last = b })))) (restAt (p + k) (drop (p + k) s))) ≡ answer asked
-          item-kept h l =
-              let t : (not (itemFits it) || leb mostItems (length seen)) ≡ false = rw (seen-length, fits-yes it (record { first = x; last = y; order = l }), lt-leb mostItems n h) in
-              ap answer (rw (seen-next h (record { first = a; last = b })) (sym (ap (readOn seen) (list-then s p it k e) ∙ read-next seen it t _)))
+      pub item-kept : n < 32 → pairFits a b ≡ true → readOn (take (n + 1) (rangesIn (withRange numbers n a b))) (restAt (p + k) (drop (p + k) s)) ≡ asked
+      unfolding itemFits
+      item-kept h f =
+          let t : (not (itemFits it) || leb mostItems (length seen)) ≡ false = rw (seen-length, f, lt-leb mostItems n h) in
+          rw (seen-next h a b) (sym (ap (readOn seen) (list-then s p it k e) ∙ read-next seen it t _))
 
     -- what follows the last item that was read
-    pub line-ended : p ≡ length s → told (record { answer = Answer.Good; ranges = ranges; count = n }) ≡ answer (readOn seen (restAt p (drop p s)))
-    line-ended z = held-told ∙ ap answer (sym (read-end seen _ (rest-none s p (omega arith))))
+    pub line-ended : p ≡ length s → good (rangesIn numbers, n) ≡ readOn seen (restAt p (drop p s))
+    line-ended z = held-told ∙ sym (read-end seen _ (rest-none s p (omega arith)))
 
-    pub no-comma : p < length s → (at s p ≡ comma → ⊥) → answer (bad TEXT p) ≡ answer (readOn seen (restAt p (drop p s)))
-    no-comma l h = ap answer (sym (read-broken seen _ (rest-odd s p l h)))
+    pub no-comma : p < length s → (at s p ≡ comma → ⊥) → bad TEXT p ≡ readOn seen (restAt p (drop p s))
+    no-comma l h = sym (read-broken seen _ (rest-odd s p l h))
 
-    pub a-comma : p < length s → at s p ≡ comma → answer (readOn seen (listAt 0 (p + 1) (drop (p + 1) s))) ≡ answer (readOn seen (restAt p (drop p s)))
-    a-comma l h = ap (λ (o : Outcome (List Item)). answer (readOn seen o)) (sym (rest-list s p l h))
+    pub a-comma : p < length s → at s p ≡ comma → readOn seen (listAt 0 (p + 1) (drop (p + 1) s)) ≡ readOn seen (restAt p (drop p s))
+    a-comma l h = ap (readOn seen) (sym (rest-list s p l h))
+
+-- ---- the ranges as they are handed out
+
+-- the first i are there, and those behind them are zero
+pub record Filled (numbers : List ℕ) (ranges : List IdRange) (i : ℕ) : Type 0 where
+  pub done : List IdRange
+  pub are : map rangeIn done ≡ take i (rangesIn numbers)
+  pub many : length done ≡ i
+  pub few : i ≤ 32
+  pub all : ranges ≡ done ++ replicate (32 - i) noIds
+
+pub filled-start : (numbers : List ℕ) → Filled numbers (replicate 32 noIds) 0
+filled-start numbers = record { done = []; are = refl; many = refl; few = omega arith; all = refl }
+
+pair-at : (i : ℕ) (l : List ℕ) → 2 * i + 1 < length l → take (i + 1) (rangesIn l) ≡ take i (rangesIn l) ++ (record { first = getD l (2 * i) 0; last = getD l (2 * i + 1) 0 } ∷ [])
+unfolding rangesIn
+pair-at i [] h = absurd (omega arith)
+pair-at i (x ∷ []) h = absurd (omega arith)
+pair-at zero (x ∷ y ∷ l) h = refl
+pair-at (suc i) (x ∷ y ∷ l) h =
+    let z : 2 * suc i ≡ suc (suc (2 * i)) = omega arith in
+    let w : 2 * suc i + 1 ≡ suc (suc (2 * i + 1)) = omega arith in
+    let k : suc i + 1 ≡ suc (i + 1) = omega arith in
+    rw (w, z, k) (ap (λ (m : List Range). record { first = x; last = y } ∷ m) (pair-at i l (omega arith)))
+
+module _ (numbers : List ℕ) (ranges : List IdRange) (i : ℕ) (long : length numbers ≡ 64) where
+  pub filled-next : i < 32 → Filled numbers ranges i → Filled numbers (set ranges i (record { first = getD numbers (2 * i) 0; last = getD numbers (2 * i + 1) 0 })) (i + 1)
+  filled-next h w =
+      let r : IdRange = record { first = getD numbers (2 * i) 0; last = getD numbers (2 * i + 1) 0 } in
+      let z : 32 - i ≡ suc (32 - (i + 1)) = omega arith in
+      record {
+        done = w .done ++ (r ∷ []);
+        are = map-append rangeIn (w .done) (r ∷ []) ∙ rw (w .are) (sym (pair-at i numbers (omega (arith, long))));
+        many = rw (length-append, w .many);
+        few = omega arith;
+        all = rw (w .all, z) (set-at (w .done) noIds (replicate (32 - (i + 1)) noIds) r i (w .many) ∙ sym (append-assoc (w .done) (r ∷ []) _));
+      }
+
+  pub filled-all : 32 ≤ i → Filled numbers ranges i → map rangeIn ranges ≡ rangesIn numbers
+  filled-all h w =
+      let z : 32 - i ≡ 0 = omega arith in
+      let e : ranges ≡ w .done = w .all ∙ rw z (append-nil (w .done)) in
+      ap (map rangeIn) e ∙ w .are ∙ take-all i (rangesIn numbers) (omega (arith, pairs-length 32 numbers long))
+
+pub heard : {r r′ : LineRead} (numbers : List ℕ) {o : Outcome (List Range × ℕ)} → r ≡ r′ → lineTold r numbers ≡ o → lineTold r′ numbers ≡ o
+heard numbers e f = ap (λ (x : LineRead). lineTold x numbers) (sym e) ∙ f
+
+pub handed : (numbers : List ℕ) (ranges : List IdRange) (k : ℕ) → map rangeIn ranges ≡ rangesIn numbers → told (record { answer = Answer.Good; ranges = ranges; count = k }) ≡ answer (good (rangesIn numbers, k))
+unfolding shownRanges
+handed numbers ranges k e = rw e
 
 bind-twice : {A B C : Type 0} (o : Outcome A) (f : A → Outcome B) (g : B → Outcome C) → ((o >>= f) >>= g) ≡ (o >>= λ (a : A). f a >>= g)
 unfolding _>>=_

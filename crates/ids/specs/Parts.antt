@@ -1,19 +1,21 @@
 -- What is answered between a line's beginning and its end, and before anything is written: the promises of the private functions.
-use Prim.Native.Nat.{ℕ, zero, suc, _-_, _≤_}
+use Prim.Native.Nat.{ℕ, zero, suc, _+_, _-_, _*_, _≤_}
 use mathlib.Core.Path.{_≡_}
-use mathlib.Core.Bool.{not}
+use mathlib.Core.Bool.{Bool, not}
 use mathlib.Core.List.{List, [], _∷_, _++_}
 use lib.Dec.{eqb}
-use lib.ListN.{length, replicate}
+use lib.ListN.{length, drop, set, replicate}
 use Rattle.rules.specs.Outcome.{Outcome, good, bad, refuse, _>>_, _>>=_}
-use Rattle.refusal.specs.Numbers.{TEXT}
+use Rattle.refusal.specs.Numbers.{TEXT, refused}
 use Rattle.ids.specs.Line.{comma, Item}
-use Rattle.ids.specs.Reader.{Range, mostItems, listAt, rangesOf, handedOut}
+use Rattle.ids.specs.Reader.{Range, mostItems, itemFits, listAt, rangesOf, handedOut}
 use Rattle.ids.specs.declared.IdRange.{IdRange}
 use Rattle.ids.specs.declared.ItemRead.{ItemRead}
 use Rattle.ids.specs.declared.ItemRead.the-variants as Read
 use Rattle.ids.specs.declared.Form.{Form}
 use Rattle.ids.specs.declared.Form.the-variants as Formed
+use Rattle.ids.specs.declared.LineRead.{LineRead}
+use Rattle.ids.specs.declared.LineRead.the-variants as Line
 use Rattle.ids.specs.declared.Order.{Order}
 use Rattle.ids.specs.declared.Order.the-variants as Ordered
 
@@ -51,15 +53,33 @@ faultAt p o = do
   is ← o
   bad TEXT p
 
--- a range of the code that is all zero; n ranges are held, and such behind them
+-- whether an item with these ids fits
+abbrev pub pairFits : ℕ → ℕ → Bool
+pairFits a b = itemFits (record { place = 0; first = a; last = b })
+
+-- the ranges that numbers stand for, first and last of each in turn; and such numbers with a range at index n
+unfoldable pub rangesIn : List ℕ → List Range
+rangesIn [] = []
+rangesIn (a ∷ []) = []
+rangesIn (a ∷ b ∷ l) = record { first = a; last = b } ∷ rangesIn l
+
+abbrev pub withRange : List ℕ → ℕ → ℕ → ℕ → List ℕ
+withRange l n a b = set (set l (2 * n) a) (2 * n + 1) b
+
+-- the numbers of 32 ranges, of which n are read; the others are zero
+pub record Held (numbers : List ℕ) (n : ℕ) : Type 0 where
+  pub few : n ≤ mostItems
+  pub long : length numbers ≡ 2 * mostItems
+  pub behind : drop (2 * n) numbers ≡ replicate (2 * (mostItems - n)) 0
+
+-- what the readers come to, with the numbers after it
+abbrev pub lineTold : LineRead → List ℕ → Outcome (List Range × ℕ)
+lineTold (Line.Ranges n) numbers = good (rangesIn numbers, n)
+lineTold (Line.Refused f) numbers = refused f
+
+-- a range of the code that is all zero
 abbrev pub noIds : IdRange
 noIds = record { first = 0; last = 0 }
-
-pub record Held (ranges : List IdRange) (n : ℕ) : Type 0 where
-  pub few : n ≤ mostItems
-  pub done : List IdRange
-  pub many : length done ≡ n
-  pub filled : ranges ≡ done ++ replicate (mostItems - n) noIds
 
 -- whether ranges may be written
 abbrev pub toldOrder : Order → Outcome (Unit {0})

@@ -1,23 +1,23 @@
 // Ids as a line of text, read into ranges and written from them. A line is a list: an item, alone or followed by a comma and a list.
-// The item reader and the list reader call each other, and what is unread gets shorter with each call; they go at most 33 items deep.
+// The item reader and the list reader call each other, and what is unread gets shorter with each call; they go at most 33 items deep, and lend each other
+// the numbers that they read.
 use compose::Written;
 use refusal::Refusal;
 use refusal::Why;
 use wire::byte_at;
 use wire::put_byte;
 ghost use mathlib.Core.Path.{_≡_};
-ghost use mathlib.Core.List.{map};
-ghost use Prim.Native.Nat.{_+_, _%_, _≤_, _<_};
+ghost use mathlib.Core.List.{List, map};
+ghost use Prim.Native.Nat.{ℕ, _+_, _%_, _≤_, _<_};
 ghost use lib.ListN.{length, take, drop};
 ghost use lib.Seq.{sets};
-ghost use Rattle.rules.specs.Outcome.{bad};
-ghost use Rattle.refusal.specs.Numbers.{numberOf};
+ghost use Rattle.refusal.specs.Numbers.{refused};
 ghost use Rattle.ids.specs.Line.{decimal};
 ghost use Rattle.ids.specs.Reader.{isDigit, digits, itemAt, listAt, readIds};
 ghost use Rattle.ids.specs.Writer.{idText, itemText, lineText, rangesKept, writeIds};
 ghost use Rattle.compose.specs.Told as compose;
 ghost use Rattle.ids.specs.Told.{rangeIn, answer, told, handedOver};
-ghost use Rattle.ids.specs.Parts.{toldItem, restAt, toldForm, formOf, readOn, faultAt, noIds, Held, toldOrder};
+ghost use Rattle.ids.specs.Parts.{toldItem, restAt, toldForm, formOf, pairFits, rangesIn, withRange, Held, lineTold, readOn, faultAt, noIds, toldOrder};
 
 // An inclusive range of ids.
 pub struct IdRange {
@@ -140,6 +140,90 @@ fn form_at(s: &[u8], from: usize) -> Form
     Form::Good
 }
 
+// What the readers come to: so many ranges are read, or the line is refused.
+enum LineRead {
+    Ranges(usize),
+    Refused(Refusal),
+}
+
+fn refuse(place: usize) -> LineRead
+    ensures { λ r. ⌜ r ≡ LineRead.Refused (record { why = Why.Text; place = place }) ⌝ }
+{
+    LineRead::Refused(Refusal {
+        why: Why::Text,
+        place,
+    })
+}
+
+// The item at place `at` is at fault. What follows it is looked at for its form alone, in a loop, since it may be long.
+fn fault(s: &[u8], at: usize, next: usize) -> LineRead
+    requires { ⌜ next ≤ length (now s) ⌝ }
+    ensures { λ r. ⌜ ((numbers : List ℕ) → lineTold r numbers ≡ faultAt at (restAt next (drop next (now (s .entry))))) ⌝ }
+{
+    match form_at(s, next) {
+        Form::Good => refuse(at),
+        Form::Broken(q) => refuse(q),
+    }
+}
+
+// Whether both ids are below 2^32, the first not above the last.
+fn fits(first: u64, last: u64) -> bool
+    ensures { λ r. ⌜ r ≡ pairFits first last ⌝ }
+{
+    if 4294967296 <= first {
+        return false;
+    }
+    if 4294967296 <= last {
+        return false;
+    }
+    first <= last
+}
+
+// Stores first and last of the range with index n.
+fn put_range(numbers: &mut [u32], n: usize, first: u32, last: u32)
+    requires { ⌜ (n < 32) × (length (now numbers) ≡ 64) ⌝ }
+    ensures { λ _. ⌜ now (numbers .exit) ≡ withRange (now (numbers .entry)) n first last ⌝ }
+{
+    let at = 2 * n;
+    numbers[at] = first;
+    numbers[at + 1] = last;
+}
+
+// The item reader: an item stands at place `at`, n ranges are read before it, and the list reader goes on behind it.
+fn read_item(s: &[u8], at: usize, numbers: &mut [u32], n: usize) -> LineRead
+    requires { ⌜ (at ≤ length (now s)) × Held (now numbers) n ⌝ }
+    ensures { λ r. ⌜ lineTold r (now (numbers .exit)) ≡ readOn (take n (rangesIn (now (numbers .entry)))) (listAt 0 at (drop at (now (s .entry)))) ⌝ }
+{
+    match item_at(s, at) {
+        ItemRead::Broken(q) => refuse(q),
+        ItemRead::Item { first, last, size } => {
+            let next = at + size;
+            if n == 32 {
+                return fault(s, at, next);
+            }
+            if !fits(first, last) {
+                return fault(s, at, next);
+            }
+            put_range(numbers, n, first as u32, last as u32);
+            read_list(s, next, numbers, n + 1)
+        }
+    }
+}
+
+// The list reader: n ranges are read, the last of them up to place `at`. It stands alone there, or a comma follows and the item reader goes on.
+fn read_list(s: &[u8], at: usize, numbers: &mut [u32], n: usize) -> LineRead
+    requires { ⌜ (at ≤ length (now s)) × Held (now numbers) n ⌝ }
+    ensures { λ r. ⌜ lineTold r (now (numbers .exit)) ≡ readOn (take n (rangesIn (now (numbers .entry)))) (restAt at (drop at (now (s .entry)))) ⌝ }
+{
+    if at == s.len() {
+        return LineRead::Ranges(n);
+    }
+    if s[at] != 44 {
+        return refuse(at);
+    }
+    read_item(s, at + 1, numbers, n)
+}
+
 // A range that is all zero.
 fn no_ids() -> IdRange
     ensures { λ r. ⌜ r ≡ noIds ⌝ }
@@ -147,75 +231,32 @@ fn no_ids() -> IdRange
     IdRange { first: 0, last: 0 }
 }
 
+// The ranges of which first and last are lent.
+fn ranges_of(numbers: &[u32]) -> [IdRange; 32]
+    requires { ⌜ length (now numbers) ≡ 64 ⌝ }
+    ensures { λ r. ⌜ map rangeIn r ≡ rangesIn (now (numbers .entry)) ⌝ }
+{
+    let mut ranges = [no_ids(); 32];
+    let mut i: usize = 0;
+    while i < 32 {
+        ranges[i] = IdRange {
+            first: numbers[2 * i],
+            last: numbers[2 * i + 1],
+        };
+        i += 1;
+    }
+    ranges
+}
+
 // A line that is refused.
-fn refuse(why: Why, place: usize) -> IdsRead
-    ensures { λ r. ⌜ told r ≡ answer (bad (numberOf why) place) ⌝ }
+fn refused_line(f: Refusal) -> IdsRead
+    ensures { λ r. ⌜ told r ≡ answer (refused f) ⌝ }
 {
     IdsRead {
-        answer: IdsAnswer::Refused(Refusal { why, place }),
+        answer: IdsAnswer::Refused(f),
         ranges: [no_ids(); 32],
         count: 0,
     }
-}
-
-// The item at place `at` is at fault. What follows it is looked at for its form alone, in a loop, since it may be long.
-fn fault(s: &[u8], at: usize, next: usize) -> IdsRead
-    requires { ⌜ next ≤ length (now s) ⌝ }
-    ensures { λ r. ⌜ told r ≡ answer (faultAt at (restAt next (drop next (now (s .entry))))) ⌝ }
-{
-    match form_at(s, next) {
-        Form::Good => refuse(Why::Text, at),
-        Form::Broken(q) => refuse(Why::Text, q),
-    }
-}
-
-// The item reader: an item stands at place `at`, n ranges are read before it, and the list reader goes on behind it.
-fn read_item(s: &[u8], at: usize, ranges: [IdRange; 32], n: usize) -> IdsRead
-    requires { ⌜ (at ≤ length (now s)) × Held ranges n ⌝ }
-    ensures { λ r. ⌜ told r ≡ answer (readOn (map rangeIn (take n ranges)) (listAt 0 at (drop at (now (s .entry))))) ⌝ }
-{
-    match item_at(s, at) {
-        ItemRead::Broken(q) => refuse(Why::Text, q),
-        ItemRead::Item { first, last, size } => {
-            let next = at + size;
-            if n == 32 {
-                return fault(s, at, next);
-            }
-            if 4294967296 <= first {
-                return fault(s, at, next);
-            }
-            if 4294967296 <= last {
-                return fault(s, at, next);
-            }
-            if last < first {
-                return fault(s, at, next);
-            }
-            let mut more = ranges;
-            more[n] = IdRange {
-                first: first as u32,
-                last: last as u32,
-            };
-            read_list(s, next, more, n + 1)
-        }
-    }
-}
-
-// The list reader: n ranges are read, the last of them up to place `at`. It stands alone there, or a comma follows and the item reader goes on.
-fn read_list(s: &[u8], at: usize, ranges: [IdRange; 32], n: usize) -> IdsRead
-    requires { ⌜ (at ≤ length (now s)) × Held ranges n ⌝ }
-    ensures { λ r. ⌜ told r ≡ answer (readOn (map rangeIn (take n ranges)) (restAt at (drop at (now (s .entry))))) ⌝ }
-{
-    if at == s.len() {
-        return IdsRead {
-            answer: IdsAnswer::Good,
-            ranges,
-            count: n,
-        };
-    }
-    if s[at] != 44 {
-        return refuse(Why::Text, at);
-    }
-    read_item(s, at + 1, ranges, n)
 }
 
 // The ranges of a line of ids.
@@ -223,9 +264,20 @@ pub fn read_ids(line: &[u8]) -> IdsRead
     ensures { λ r. ⌜ told r ≡ answer (readIds (now (line .entry))) ⌝ }
 {
     if 65536 < line.len() {
-        return refuse(Why::Large, 65536);
+        return refused_line(Refusal {
+            why: Why::Large,
+            place: 65536,
+        });
     }
-    read_item(line, 0, [no_ids(); 32], 0)
+    let mut numbers = [0u32; 64];
+    match read_item(line, 0, &mut numbers, 0) {
+        LineRead::Refused(f) => refused_line(f),
+        LineRead::Ranges(count) => IdsRead {
+            answer: IdsAnswer::Good,
+            ranges: ranges_of(&numbers),
+            count,
+        },
+    }
 }
 
 // How many digits n has in decimal.
