@@ -3,8 +3,8 @@
  *
  * Each function but hibernaxo_link_row, which refuses nothing, returns a refusal number, HIBERNAXO_OK for success, and
  * stores its values on every call. values[0] is then always the place of the refusal, a byte offset in the input named, or what the number says below; on success it is 0.
- * On a refusal every other value is 0, and no byte of a lent buffer changes; only a walk's place comes back as it was
- * handed in.
+ * On a refusal every other value is 0, and no byte of a lent buffer changes; only the place of a walk, over packages or
+ * over a radio message's TLVs, comes back as it was handed in.
  *
  * A slice is a pointer and a length in bytes. Pointers are never null, even where the length is 0: any other address
  * does there. A buffer that is written, values included, overlaps nothing else that the same call is handed. An output
@@ -27,20 +27,20 @@ enum hibernaxo_refusal {
     HIBERNAXO_SHORT = 1,     /* fewer than 24 bytes at a message's start: the message */
     HIBERNAXO_VERSION = 2,   /* the version is not 1: the message */
     HIBERNAXO_TYPE = 3,      /* the type is not 0: the message */
-    HIBERNAXO_LENGTH = 4,    /* the length is below 24 + 4 W or no multiple of 4: the message */
+    HIBERNAXO_LENGTH = 4,    /* the length is below 24 + 4 W or no multiple of 4: the message; in cutting, a size that is no multiple of 4 from 4 up: 0 */
     HIBERNAXO_CUT = 5,       /* the length is above the bytes left: the message */
     HIBERNAXO_TIME = 6,      /* more than 999,999,999 nanoseconds: the message; 0 in the writer */
-    HIBERNAXO_OPTION = 7,    /* the first bad option, a second 0x86 or 0x87 too, in the writer also one of kind 0x00: the option; 60 for its run above 60 bytes */
+    HIBERNAXO_OPTION = 7,    /* the first bad option, a second 0x86 or 0x87 too, in the writer also one of kind 0x00, in cutting any 0x86: the option; 60 for the writer's run above 60 bytes, 24 where cutting has no place for 0x86 */
     HIBERNAXO_FRAGMENT = 8,  /* flag bits 5-4 are not 00: the message */
-    HIBERNAXO_STANDARD = 9,  /* flag bit 7 is 1 with no payload, or 0 with one: the message */
-    HIBERNAXO_PACKAGE = 10,  /* a package that its header or the bytes left do not allow: the package */
+    HIBERNAXO_STANDARD = 9,  /* flag bit 7 is 1 with no payload, or 0 with one: the message; 0 in joining */
+    HIBERNAXO_PACKAGE = 10,  /* a package that its header or the bytes left do not allow: the package; 0 in joining */
     HIBERNAXO_ROW = 11,      /* a row against the rules: the row; a bad size of the sheet: the sheet's length */
     HIBERNAXO_LARGE = 12,    /* an input, or the writer's message, above 65,536 bytes: 65536; in a capture a clean message above 65,507 bytes: the message */
     HIBERNAXO_ROOM = 13,     /* the output buffer is too short: the bytes needed */
     HIBERNAXO_MARKER = 14,   /* fewer than 8 bytes, or another marker: 0 */
     HIBERNAXO_BLOCKS = 15,   /* not 1 to 80 whole codeblocks: the burst's length */
     HIBERNAXO_TEXT = 16,     /* the first byte that breaks the form of a line of ids, or the line's end; then the first digit of an item against the rules; in writing, the range's index */
-    HIBERNAXO_COUNT = 17,    /* option 0x87 says another number than that of the packages: the message; 0 in the writer */
+    HIBERNAXO_COUNT = 17,    /* option 0x87 says another number than that of the packages: the message; 0 in the writer and in joining */
     HIBERNAXO_CAPTURE = 18,  /* a capture file's bad header: 0; a record that the file's end cuts: the record */
     HIBERNAXO_RADIO = 19,    /* a radio message's header or TLV against the rules, or no TLV at all: the TLV, in writing where it would stand; 0 for the header and for no TLV */
     HIBERNAXO_IDS = 20,      /* a state with more than 64 ids or one id twice: 0; a 65th id among the delivered ones: its message */

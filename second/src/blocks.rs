@@ -204,7 +204,7 @@ pub fn nested(dice: &mut Dice) -> Vec<u8> {
 /// has a header that does, with packages of 12 bytes up to the input's end, the last of
 /// them cut. By threes the words are: header or length, length of a package, and header
 /// or length again, of a message with one option word.
-pub fn slowest(words: usize) -> Vec<u8> {
+pub fn slow(words: usize) -> Vec<u8> {
     const PACKAGE_WORD: u32 = 12 << 16;
     let mut bytes = Vec::with_capacity(4 * words);
     for at in 0..words {

@@ -1,7 +1,7 @@
 //! Salvage at and beside each limit.
 
 use super::Limits;
-use crate::blocks::{nested, slowest, with_holes, BadBlock, BLOCK_PLACES, FILLS};
+use crate::blocks::{nested, slow, with_holes, BadBlock, BLOCK_PLACES, FILLS};
 use crate::damage::{with_faults, FAULTS};
 use crate::generate::*;
 use crate::paper::{m_with, m_with_options, message_m};
@@ -114,11 +114,11 @@ fn sizes(limits: &mut Limits) {
         limits.salvage(&one);
     }
     for words in [0, 1, 7, 10, 100, 101, 102, 103, 104, 105] {
-        limits.salvage(&slowest(words));
+        limits.salvage(&slow(words));
     }
     limits.next("salvage");
-    let slowest = slowest(MOST_BYTES / 4);
-    side_by_side::salvage(limits.judge, &mut limits.dice, &slowest, 0);
+    let slow = slow(MOST_BYTES / 4);
+    side_by_side::salvage(limits.judge, &mut limits.dice, &slow, 0);
     let world = World::new(&mut limits.dice);
     for style in [Style::Mixed, Style::OnePackageEach, Style::FewLarge] {
         let messages = messages_of_size(&mut limits.dice, &world, MOST_BYTES, style);

@@ -1,7 +1,7 @@
 //! Salvage.
 
 use super::{m_with, m_with_options, refused};
-use crate::blocks::{bad_blocks, nested, slowest, with_holes, BadBlock, BLOCK_PLACES, FILLS};
+use crate::blocks::{bad_blocks, nested, slow, with_holes, BadBlock, BLOCK_PLACES, FILLS};
 use crate::dice::Dice;
 use crate::paper::message_m;
 use crate::parse::{check, message_at, read_header};
@@ -172,11 +172,11 @@ fn a_bad_block_costs_what_it_touches() {
     assert!(alone > 1_000, "{alone}");
 }
 
-/// The slowest input is skipped whole, though a header passes at a third of all
+/// A slow input is skipped whole, though a header passes at a third of all
 /// offsets and its packages do to the last.
 #[test]
-fn the_slowest_input_is_skipped_whole() {
-    let input = slowest(4_096);
+fn a_slow_input_is_skipped_whole() {
+    let input = slow(4_096);
     assert_eq!(salvaged(&input), (vec![], 0, vec![(0, 16_384)]));
     let (mut headers, mut packages) = (0, 0);
     for at in (0..input.len()).step_by(4) {

@@ -2,7 +2,7 @@
 //! copy of the same bytes, bursts also against a bytewise loop, and measuring a
 //! copy beside writing it. Purging is timed beside moving the same bytes, a step
 //! beside the single copy of the same input, and a run of steps over up to 64 MiB.
-//! Salvage is timed at its slowest, too; radio messages, captures, fragments and
+//! Salvage is timed with a slow input, too; radio messages, captures, fragments and
 //! lines of ids are read and written. Of the programs that copy a recording of any
 //! length the processor time is taken. The ways take turns; medians are shown.
 

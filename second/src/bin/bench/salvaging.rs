@@ -1,14 +1,14 @@
-//! Salvage, at its slowest too.
+//! Salvage, of a slow input too.
 
 use crate::scenes::*;
 use crate::timing::*;
 use crate::Settings;
-use second::blocks::slowest;
+use second::blocks::slow;
 use second::exports::raw;
 use second::salvage;
 use std::hint::black_box;
 
-/// The slowest salvage is timed at most so often.
+/// A slow salvage is timed at most so often.
 const SLOW_REPETITIONS: usize = 9;
 
 pub fn salvaging(settings: &Settings) {
@@ -23,7 +23,7 @@ pub fn salvaging(settings: &Settings) {
     }
     for size in SIZES {
         let few = settings.repetitions.min(SLOW_REPETITIONS);
-        show(&time_salvage("slowest", "nothing passes", &slowest(size / 4), few));
+        show(&time_salvage("slow", "nothing passes", &slow(size / 4), few));
     }
 }
 
