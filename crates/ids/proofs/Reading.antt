@@ -8,7 +8,7 @@ use native.Mathlib.Omega.{arith}
 use borrow.Author.Tests.{le-ltb, lt-ltb, lt-leb}
 use lib.Dec.{leb}
 use lib.ListN.{length, getD, take, drop, set, replicate, length-append, length-set, take-append-drop}
-use lib.Seq.{set-at, take-all, length-take-le, drop-nil, drop-drop, drop-set-lt}
+use lib.Seq.{set-at, set-getD, take-all, length-take-le, drop-nil, drop-drop, drop-set-lt}
 use Rattle.rules.specs.Outcome.{Outcome, good, bad, _>>=_, _∷>_, LARGE}
 use Rattle.rules.specs.Bytes.{at}
 use Rattle.refusal.specs.Numbers.{TEXT}
@@ -184,22 +184,13 @@ pub record Filled (numbers : List ℕ) (ranges : List IdRange) (i : ℕ) : Type 
   pub done : List IdRange
   pub are : map rangeIn done ≡ take i (rangesIn numbers)
   pub many : length done ≡ i
-  pub few : i ≤ 32
   pub all : ranges ≡ done ++ replicate (32 - i) noIds
 
 pub filled-start : (numbers : List ℕ) → Filled numbers (replicate 32 noIds) 0
-filled-start numbers = record { done = []; are = refl; many = refl; few = omega arith; all = refl }
+filled-start numbers = record { done = []; are = refl; many = refl; all = refl }
 
 pair-at : (i : ℕ) (l : List ℕ) → 2 * i + 1 < length l → take (i + 1) (rangesIn l) ≡ take i (rangesIn l) ++ (record { first = getD l (2 * i) 0; last = getD l (2 * i + 1) 0 } ∷ [])
-unfolding rangesIn
-pair-at i [] h = absurd (omega arith)
-pair-at i (x ∷ []) h = absurd (omega arith)
-pair-at zero (x ∷ y ∷ l) h = refl
-pair-at (suc i) (x ∷ y ∷ l) h =
-    let z : 2 * suc i ≡ suc (suc (2 * i)) = omega arith in
-    let w : 2 * suc i + 1 ≡ suc (suc (2 * i + 1)) = omega arith in
-    let k : suc i + 1 ≡ suc (i + 1) = omega arith in
-    rw (w, z, k) (ap (λ (m : List Range). record { first = x; last = y } ∷ m) (pair-at i l (omega arith)))
+pair-at i l h = rw (set-getD, set-getD) at (pairs-more i l (getD l (2 * i) 0) (getD l (2 * i + 1) 0) h)
 
 module _ (numbers : List ℕ) (ranges : List IdRange) (i : ℕ) (long : length numbers ≡ 64) where
   pub filled-next : i < 32 → Filled numbers ranges i → Filled numbers (set ranges i (record { first = getD numbers (2 * i) 0; last = getD numbers (2 * i + 1) 0 })) (i + 1)
@@ -210,7 +201,6 @@ module _ (numbers : List ℕ) (ranges : List IdRange) (i : ℕ) (long : length n
         done = w .done ++ (r ∷ []);
         are = map-append rangeIn (w .done) (r ∷ []) ∙ rw (w .are) (sym (pair-at i numbers (omega (arith, long))));
         many = rw (length-append, w .many);
-        few = omega arith;
         all = rw (w .all, z) (set-at (w .done) noIds (replicate (32 - (i + 1)) noIds) r i (w .many) ∙ sym (append-assoc (w .done) (r ∷ []) _));
       }
 
@@ -220,8 +210,8 @@ module _ (numbers : List ℕ) (ranges : List IdRange) (i : ℕ) (long : length n
       let e : ranges ≡ w .done = w .all ∙ rw z (append-nil (w .done)) in
       ap (map rangeIn) e ∙ w .are ∙ take-all i (rangesIn numbers) (omega (arith, pairs-length 32 numbers long))
 
-pub heard : {r r′ : LineRead} (numbers : List ℕ) {o : Outcome (List Range × ℕ)} → r ≡ r′ → lineTold r numbers ≡ o → lineTold r′ numbers ≡ o
-heard numbers e f = ap (λ (x : LineRead). lineTold x numbers) (sym e) ∙ f
+pub heard : {r r′ : LineRead} (numbers : List ℕ) {o : Outcome (List Range × ℕ)} → r ≡ r′ → lineTold r′ numbers ≡ o → lineTold r numbers ≡ o
+heard numbers e f = ap (λ (x : LineRead). lineTold x numbers) e ∙ f
 
 pub handed : (numbers : List ℕ) (ranges : List IdRange) (k : ℕ) → map rangeIn ranges ≡ rangesIn numbers → told (record { answer = Answer.Good; ranges = ranges; count = k }) ≡ answer (good (rangesIn numbers, k))
 unfolding shownRanges

@@ -9,11 +9,10 @@ use Rattle.rules.specs.Outcome.{good}
 use Rattle.ids.specs.Line.{Item}
 use Rattle.ids.specs.Reader.{itemAt}
 use Rattle.ids.specs.Claims.{Fits}
-use Rattle.ids.specs.Parts.{toldItem, lineTold}
-use Rattle.ids.specs.declared.LineRead.{LineRead}
+use Rattle.ids.specs.Parts.{toldItem}
 use Rattle.ids.proofs.Ranges.{fits-is}
 use Rattle.ids.proofs.Steps.{item-inside}
-use Rattle.ids.proofs.Reading.{held-next, item-broken, the-33rd, unfit, item-kept, line-ended, no-comma, a-comma}
+use Rattle.ids.proofs.Reading.{held-next, heard, item-broken, the-33rd, unfit, item-kept, line-ended, no-comma, a-comma}
 use borrow.Fn.Kinds.{In}
 use borrow.Fn.PlainCycle.{Measures, is, falls, and}
 use Rattle.ids.proofs.read_item.Reads as read-item
@@ -134,7 +133,7 @@ module _ (t : ℕ) where
       (omega (arith, k .0, k .1), (k .1, rw (c .before .before .before .put-range .ensures) (held-next _ _ (c .before .before .before .before .before .before .before .before .before .before .before .before .before .before .pre .1 .1) (omega (arith, c .before .before .before .before .before .before .before .before .before .before .before .before .before .before .pre .1 .1 .few)) _ _)))
 
   read-item-returns-3 : read-item-lts.Need-returns-3 (item-claims t) (read-item-at t) read-item.Post
-  read-item-returns-3 c = ap (λ (r : LineRead). lineTold r (c .before .before .before .before .before .before .before .args .numbers .now)) (c .refuse .ensures) ∙ item-broken _ _ (c .before .before .before .before .before .before .before .pre .1 .1) (c .before .before .before .before .before .before .before .args .s .now) (c .before .before .before .before .before .before .before .args .at) (sym (c .before .before .before .before .item-at .ensures) ∙ ap (toldItem (c .before .before .before .before .before .before .before .args .at)) (c .before .before .q .given .1))
+  read-item-returns-3 c = heard (c .before .before .before .before .before .before .before .args .numbers .now) (c .refuse .ensures) (item-broken _ _ (c .before .before .before .before .before .before .before .pre .1 .1) (c .before .before .before .before .before .before .before .args .s .now) (c .before .before .before .before .before .before .before .args .at) (sym (c .before .before .before .before .item-at .ensures) ∙ ap (toldItem (c .before .before .before .before .before .before .before .args .at)) (c .before .before .q .given .1)))
 
   read-item-same-length : read-item-lts.Need-same-length (item-claims t) (read-item-at t) read-item.Post
   read-item-same-length c = c .before .before .read-list .kept .1 .1 .0 ∙ c .before .before .before .before .before .before .put-range .kept .0
@@ -154,7 +153,7 @@ module _ (t : ℕ) where
   read-list-refuse-requires c κs = search needs
 
   read-list-returns-2 : read-list-lts.Need-returns-2 (list-claims t) (read-list-at t) read-list.Post
-  read-list-returns-2 c = ap (λ (r : LineRead). lineTold r (c .before .before .before .before .before .before .args .numbers .now)) (c .refuse .ensures) ∙ no-comma _ _ (c .before .before .before .before .before .before .pre .1 .1) (c .before .before .before .before .before .before .args .s .now) (c .before .before .before .before .before .before .args .at) (omega (arith, c .before .before .before .before .before .before .pre .1 .0)) (c .before .if2 .taken)
+  read-list-returns-2 c = heard (c .before .before .before .before .before .before .args .numbers .now) (c .refuse .ensures) (no-comma _ _ (c .before .before .before .before .before .before .pre .1 .1) (c .before .before .before .before .before .before .args .s .now) (c .before .before .before .before .before .before .args .at) (omega (arith, c .before .before .before .before .before .before .pre .1 .0)) (c .before .if2 .taken))
 
   read-list-add-read-item : read-list-lts.Need-add-read-item (list-claims t) (read-list-at t) read-list.Post
   read-list-add-read-item c = omega arith

@@ -1,9 +1,8 @@
 -- `ids::fault` meets its contract: a broken form comes before the item at fault.
 use borrow.Author.Needs.{needs}
 use mathlib.Core.Path.{sym, ap, _∙_}
-use Rattle.ids.specs.Parts.{toldForm, lineTold}
-use Rattle.ids.specs.declared.LineRead.{LineRead}
-use Rattle.ids.proofs.Reading.{fault-good, fault-bad}
+use Rattle.ids.specs.Parts.{toldForm}
+use Rattle.ids.proofs.Reading.{heard, fault-good, fault-bad}
 use Rattle.ids.proofs.fault.Statement.{statement}
 use Rattle.ids.proofs.fault.Tie as tie
 
@@ -23,10 +22,10 @@ refuse-requires-2 : tie.Need-refuse-requires-2
 refuse-requires-2 c κs = search needs
 
 returns : tie.Need-returns
-returns c numbers = ap (λ (r : LineRead). lineTold r numbers) (c .refuse .ensures) ∙ fault-good _ _ (sym (ap toldForm (c .before .enum-told .given .1)) ∙ c .before .before .before .form-at .ensures)
+returns c numbers = heard numbers (c .refuse .ensures) (fault-good _ _ (sym (ap toldForm (c .before .enum-told .given .1)) ∙ c .before .before .before .form-at .ensures))
 
 returns-2 : tie.Need-returns-2
-returns-2 c numbers = ap (λ (r : LineRead). lineTold r numbers) (c .refuse2 .ensures) ∙ fault-bad _ _ _ (sym (ap toldForm (c .before .before .q .given .1)) ∙ c .before .before .before .before .form-at .ensures)
+returns-2 c numbers = heard numbers (c .refuse2 .ensures) (fault-bad _ _ _ (sym (ap toldForm (c .before .before .q .given .1)) ∙ c .before .before .before .before .form-at .ensures))
 
 pub fault-spec : {M : Type 1} → statement M
 fault-spec =
