@@ -336,7 +336,7 @@ fn randomize_few(part: &mut [u8], table: &[u8; 255])
     part[2] = part[2] ^ table[2];
 }
 
-// Randomizes at most one period. Here the loop alone knows the places, so a copy of the table is stored, a short one where that does; were the table lent itself, each call would store it.
+// Randomizes at most one period. Beyond three bytes the loop alone knows the places, so a copy of the table is stored, a short one where that does; were the table lent itself, each call would store it.
 fn randomize_rest(part: &mut [u8], table: &[u8; 255])
     requires { ⌜ length (now part) ≤ 255 ⌝ }
     requires { ⌜ now table ≡ sequenceBytes 0 255 ⌝ }

@@ -1,5 +1,5 @@
 // The exports for C, Rust and Python: a function for each entry point that documents 01 and 02 name, over numbers, slices and arrays
-// alone. Each returns the refusal number, 0 for success, and stores place and values into a lent array on every call, the
+// alone. Each but link_row, which refuses nothing, returns the refusal number, 0 for success, and stores place and values into a lent array on every call, the
 // place first. The definitions ..Told say what comes back; include/hibernaxo.h says it to a caller.
 use burst::Opened;
 use burst::Randomized;

@@ -610,7 +610,7 @@ fn write_messages(
     reached.held
 }
 
-// Whether some id stands twice: the one at place i stands behind it.
+// Whether the id at place i stands again behind it.
 fn again(ids: &[u32], i: usize) -> bool
     requires { ⌜ i < length (now ids) ⌝ }
     ensures { λ r. ⌜ r ≡ ltb 0 (count (getD (now (ids .entry)) i 0) (drop (i + 1) (now (ids .entry)))) ⌝ }
@@ -699,7 +699,7 @@ pub struct Numbered {
     pub held: usize,
 }
 
-// The same under the rows of a sheet, with ids that can be held.
+// The copy under the rows of a sheet, with ids that can be held: all messages are measured before the first store.
 fn copy_under(
     input: &[u8],
     table: &[u64],

@@ -1,4 +1,4 @@
--- Request A7, and 24.3.1 of source document 000: RF network messages, read TLV by TLV and written from a run of TLVs.
+-- Request A7, and Chapter 24, 24.3.1: RF network messages, read TLV by TLV and written from a run of TLVs.
 use Prim.Native.Nat.{ℕ, zero, _+_, _≤_, _<_}
 use mathlib.Core.Path.{_≡_}
 use mathlib.Core.Bool.{true, false, not}

@@ -1,4 +1,4 @@
--- Request A7, and 24.3.2 of source document 000: the TLVs of types 1, 5, 6 and 10, as bytes and as records.
+-- Request A7, and Chapter 24, 24.3.2: the TLVs of types 1, 5, 6 and 10, as bytes and as records.
 use Prim.Native.Nat.{ℕ, _+_, _-_, _*_, _/_, _%_, _<_}
 use mathlib.Core.Path.{_≡_}
 use mathlib.Core.Bool.{Bool, true, false, not, _&&_}

@@ -1,5 +1,5 @@
 -- The rules at their edges, on both sides and with their places: numbers to check by of our own, beside P1 to P12, typed from the sentences of document 01
--- and of document 02, A2.
+-- and of document 02, A2, A4 and A8.
 use Prim.Native.Nat.{ℕ, _+_, _*_, _/_, _%_, _^_}
 use mathlib.Core.Path.{_≡_}
 use mathlib.Core.Bool.{true}
