@@ -66,17 +66,17 @@ numbered-copies ns seen (e ∷ es) low h l =
     ap (λ (n : ℕ). copyMessage n e ∷ numberedMessages (countedOn (e .id) ns) es) (h (e .id))
     ∙ ap (λ (ms : List Message). copyMessage (count (e .id) seen) e ∷ ms) (numbered-copies (countedOn (e .id) ns) (e .id ∷ seen) es (low-counted (e .id) low) more (omega arith))
 
-bytes-copied : (es : List Entry) → length es < 2 ^ 32 → numberedBytes [] es ≡ copyBytes es
+pub bytes-copied : (es : List Entry) → length es < 2 ^ 32 → numberedBytes [] es ≡ copyBytes es
 unfolding numberedBytes copyBytes nextNumber count
 bytes-copied es l = ap (λ (ms : List Message). join (map write ms)) (numbered-copies [] [] es all-nil (λ x. refl) (omega arith))
 
 -- ---- the whole copy
 
-module _ (most : ℕ) (input sheetBytes : List ℕ) (quota : ℕ) (state : State) (buffer : List ℕ) (none : state .held ≡ 0) (above : length input ≤ quota) where
-  no-numbers : runningIn state ≡ []
-  unfolding beside
-  no-numbers = rw none
+pub no-numbers : (state : State) → state .held ≡ 0 → runningIn state ≡ []
+unfolding beside
+no-numbers state none = rw none
 
+module _ (most : ℕ) (input sheetBytes : List ℕ) (quota : ℕ) (state : State) (buffer : List ℕ) (none : state .held ≡ 0) (above : length input ≤ quota) where
   good-none : badState most state ≡ false
   unfolding badIds someTwice
   good-none = rw (none, le-ltb most 0 (omega arith))
@@ -113,7 +113,7 @@ module _ (most : ℕ) (input sheetBytes : List ℕ) (quota : ℕ) (state : State
     bytes-are : numberedBytes (runningIn state) (released rows (map messageOf ts)) ≡ copyBytes (released rows (map messageOf ts))
     bytes-are =
         let f = few-released rows input quota (ltb-false 65536 (length input) small) t in
-        ap (λ (ns : List Running). numberedBytes ns (released rows (map messageOf ts))) no-numbers ∙ bytes-copied (released rows (map messageOf ts)) (omega arith)
+        ap (λ (ns : List Running). numberedBytes ns (released rows (map messageOf ts))) (no-numbers state none) ∙ bytes-copied (released rows (map messageOf ts)) (omega arith)
 
   all-bad : (n p : ℕ) → takenFrom input quota ≡ bad n p → items message 0 0 input ≡ bad n p
   unfolding takenFrom onMessages
@@ -177,7 +177,7 @@ module _ (most : ℕ) (input sheetBytes : List ℕ) (quota : ℕ) (state : State
   pub all-copied : 1820 ≤ most → asCopy (numberedCopy most input sheetBytes quota state buffer) ≡ copy input sheetBytes buffer
   all-copied l = same-copy (λ rows ts p v small t i.
       let a = after-length (runningIn state) (released rows (map messageOf ts)) in
-      let f = ids-good most rows (runningIn state) ts (omega (arith, a .most, ap length no-numbers, few-released rows input quota (ltb-false 65536 (length input) small) t, l)) in
+      let f = ids-good most rows (runningIn state) ts (omega (arith, a .most, ap length (no-numbers state none), few-released rows input quota (ltb-false 65536 (length input) small) t, l)) in
       good≢bad (sym i ∙ f))
 
   -- ---- measured alone

@@ -22,7 +22,7 @@ unfolding numbersAfter
 after-append ns [] fs = refl
 after-append ns (e ∷ es) fs = after-append (countedOn (e .id) ns) es fs
 
-numbered-append : (ns : List Running) (es fs : List Entry) → numberedMessages ns (es ++ fs) ≡ numberedMessages ns es ++ numberedMessages (numbersAfter ns es) fs
+pub numbered-append : (ns : List Running) (es fs : List Entry) → numberedMessages ns (es ++ fs) ≡ numberedMessages ns es ++ numberedMessages (numbersAfter ns es) fs
 unfolding numbersAfter numberedMessages
 numbered-append ns [] fs = refl
 numbered-append ns (e ∷ es) fs = ap (λ (l : List Message). copyMessage (nextNumber (e .id) ns) e ∷ l) (numbered-append (countedOn (e .id) ns) es fs)

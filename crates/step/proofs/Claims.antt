@@ -10,17 +10,18 @@ use Rattle.rules.specs.Items.{items}
 use Rattle.rules.specs.Message.{message}
 use Rattle.rules.specs.Copy.{Entry}
 use Rattle.rules.proofs.Outcomes.{good-inj}
-use Rattle.numbered.specs.Numbering.{runningIn}
-use Rattle.numbered.specs.Quota.{delivering, numberedCopy}
-use Rattle.numbered.proofs.Numbers.{next-after, numbered-injective}
-use Rattle.numbered.proofs.First.{first-copies}
-use Rattle.step.specs.Claims.{releasedOfAny, StepKeeps, StepHandles, StepNotLonger, QuotaZero, NumbersTrue, StepIds, StepRoom, FirstStepCopies, MeasuredStep, RunPasses, RunCopies, RunAsOne, RunRead, SameOutputs, DifferentOutputs, WindowCut, RefusalFinal}
+use Rattle.numbered.specs.Numbering.{Running, numbersAfter, numberedMessages, numberedBytes, State, runningIn}
+use Rattle.numbered.specs.Quota.{delivering, Report, numberedCopy}
+use Rattle.numbered.proofs.Numbers.{next-after, after-append, numbered-append, numbered-injective}
+use Rattle.numbered.proofs.First.{bytes-copied, no-numbers, first-copies}
+use Rattle.step.specs.Claims.{releasedOfAny, StepKeeps, StepHandles, StepNotLonger, QuotaZero, NumbersTrue, SequenceCountedOn, StepIds, StepRoom, StepDone, StepRefuses, QuotaRefuses, FirstStepCopies, MeasuredStep, RunPasses, RunCopies, RunAsOne, RunRead, FirstRunCopies, SameOutputs, DifferentOutputs, WindowCut, RefusalFinal}
 use Rattle.step.proofs.States.{running-low}
-use Rattle.step.proofs.Steps.{done, kept-state, unused-reported, careful-reported, handles}
-use Rattle.step.proofs.Ids.{ids-exactly, room-refused, none-taken}
+use Rattle.step.proofs.Steps.{done, nothing-else, unused-reported, careful-reported, handles}
+use Rattle.step.proofs.Ids.{ids-exactly, room-refused, room-enough, none-taken}
 use Rattle.step.proofs.Runs as Runs
 use Rattle.step.proofs.Measured.{measured-room, measured-long}
 use Rattle.step.proofs.Windows.{cut-window}
+use Rattle.step.proofs.Refusals.{refuses, within-quota, of-quota}
 use Rattle.rules.proofs.Final.{final}
 use Rattle.step.specs.Table.{Table}
 use Rattle.step.proofs.Table.{table}
@@ -29,7 +30,7 @@ pub step-keeps : StepKeeps
 unfolding numberedCopy
 step-keeps = record {
   unused = λ input sheet quota state buffer. unused-reported state buffer (delivering 64 input sheet quota state buffer);
-  state = λ input sheet quota state buffer. kept-state state buffer (delivering 64 input sheet quota state buffer);
+  state = λ input sheet quota state buffer h. ap (λ (a : Report × State × List ℕ). a .1) (nothing-else state buffer (delivering 64 input sheet quota state buffer) h);
   buffer = λ input sheet quota state buffer. careful-reported state buffer (delivering 64 input sheet quota state buffer);
 }
 
@@ -45,11 +46,24 @@ quota-zero = none-taken
 pub numbers-true : NumbersTrue
 numbers-true state fits es x = next-after x es (running-low state fits)
 
+pub sequence-counted-on : SequenceCountedOn
+unfolding numbersAfter numberedMessages
+sequence-counted-on state fits before e behind = rw (numbered-append, after-append, next-after (e .id) before (running-low state fits))
+
 pub step-ids : StepIds
 step-ids input sheetBytes quota state buffer rows taken fits b v l t = ids-exactly input sheetBytes quota state buffer rows taken b v l t fits
 
 pub step-room : StepRoom
 step-room input sheetBytes quota state buffer rows taken fits b v l t = room-refused input sheetBytes quota state buffer rows taken b v l t
+
+pub step-done : StepDone
+step-done = room-enough
+
+pub step-refuses : (input sheetBytes : List ℕ) (quota : ℕ) (state : State) (buffer : List ℕ) → StepRefuses input sheetBytes quota state buffer
+step-refuses = refuses
+
+pub quota-refuses : QuotaRefuses
+quota-refuses input quota n p = (within-quota input quota n p, λ h. of-quota input quota n p (h .0) (h .1))
 
 pub first-step-copies : FirstStepCopies
 first-step-copies input sheet quota state buffer none above not-ids = first-copies 64 input sheet quota state buffer none above not-ids
@@ -78,6 +92,10 @@ run-as-one sheetBytes state end all joined fits run quota buffer e whole =
 
 pub run-read : RunRead
 run-read sheetBytes state end all joined fits b run es list = Runs.run-read sheetBytes fits run es list b
+
+pub first-run-copies : FirstRunCopies
+first-run-copies sheetBytes state end all joined fits none run es list few =
+    Runs.run-copies sheetBytes fits run es list .0 ∙ ap (λ (ns : List Running). numberedBytes ns es) (no-numbers state none) ∙ bytes-copied es few
 
 pub same-outputs : SameOutputs
 same-outputs sheet sheet′ state end end′ all all′ joined joined′ fits run run′ same = go (releasedOfAny all sheet) refl

@@ -74,6 +74,11 @@ module _ (input sheetBytes : List ℕ) (quota : ℕ) (state : State) (buffer : L
   unfolding reported
   room-refused few l = refused-room 64 input sheetBytes quota state buffer rows taken good-state valid short read (ids-good 64 rows ns taken few) l
 
+  pub room-enough : length (numbersAfter ns es) ≤ 64 → length bytes ≤ length buffer
+      → (spec.step input sheetBytes quota state buffer .0 .number ≡ 0) × (spec.step input sheetBytes quota state buffer .0 .handled ≡ length taken) × (spec.step input sheetBytes quota state buffer .0 .consumed ≡ bytesTaken taken)
+  unfolding reported
+  room-enough few l = rw (copy-done 64 input sheetBytes quota state buffer rows taken good-state valid short read (ids-good 64 rows ns taken few) l) (refl, refl, refl)
+
   pub ids-exactly : StateFits state → IdsExactly input sheetBytes quota state buffer rows taken
   unfolding reported
   ids-exactly fits = record { refused = λ h. refuses (idsFit 64 rows ns taken) refl h; place = λ h. places (idsFit 64 rows ns taken) refl h }

@@ -5,6 +5,7 @@ pub mod Steps
 pub mod Runs
 pub mod Measured
 pub mod Table
+pub mod Refusals
 pub mod Windows
 pub mod Claims
 pub mod Whole

@@ -24,7 +24,7 @@ use Rattle.numbered.proofs.Ids.{ids-few}
 use Rattle.numbered.proofs.States.{good-few}
 use Rattle.step.specs.Step as spec
 use Rattle.step.specs.Step.{output}
-use Rattle.step.specs.Claims.{StateFits, releasedOfAny, Handles}
+use Rattle.step.specs.Claims.{StateFits, releasedOfAny, nothing, Handles}
 use Rattle.step.proofs.States.{running-low, running-length, running-holding, fits-holding}
 
 -- ---- no refusal has number 0
@@ -107,10 +107,11 @@ getD-behind l vs k h = sets-behind vs l 0 k (omega arith)
 
 -- ---- a refused step
 
-pub kept-state : (state : State) (buffer : List ℕ) (o : Outcome (List Taken × List Entry)) → (reported state buffer o .0 .number ≡ 0 → ⊥) → reported state buffer o .1 ≡ state
+pub nothing-else : (state : State) (buffer : List ℕ) (o : Outcome (List Taken × List Entry)) → (reported state buffer o .0 .number ≡ 0 → ⊥)
+    → reported state buffer o ≡ (nothing (reported state buffer o .0 .number) (reported state buffer o .0 .place), state, buffer)
 unfolding reported
-kept-state state buffer (good r) h = absurd (h refl)
-kept-state state buffer (bad n p) h = refl
+nothing-else state buffer (good r) h = absurd (h refl)
+nothing-else state buffer (bad n p) h = refl
 
 pub careful-reported : (state : State) (buffer : List ℕ) (o : Outcome (List Taken × List Entry)) → Careful (reported state buffer o .0 .number) (reported state buffer o .0 .bytes) buffer (reported state buffer o .2)
 unfolding reported

@@ -1,17 +1,17 @@
 -- The demands of document 02, A10, as statements, to be read without any proof. proofs/Claims.antt proves each.
 use Prim.Native.Nat.{ℕ, zero, _+_, _%_, _^_, _≤_, _<_}
 use mathlib.Core.Path.{_≡_}
-use mathlib.Core.Bool.{false}
-use mathlib.Core.Logic.{_⊎_}
+use mathlib.Core.Bool.{true, false}
+use mathlib.Core.Logic.{_↔_, _⊎_}
 use mathlib.Core.List.{List, [], _∷_, _++_, map}
-use lib.ListN.{length, getD, take}
-use Rattle.rules.specs.Outcome.{Outcome, good, bad, _>>=_, SHORT, CUT, ROOM}
+use lib.ListN.{length, getD, take, drop}
+use Rattle.rules.specs.Outcome.{Outcome, good, bad, _>>=_, SHORT, CUT, LARGE, ROOM}
 use Rattle.refusal.specs.Numbers.{IDS}
 use Rattle.rules.specs.Bytes.{Bytes}
 use Rattle.rules.specs.Items.{items, count}
 use Rattle.rules.specs.Message.{mostBytes, Message, message}
 use Rattle.rules.specs.Sheet.{Row, sheet}
-use Rattle.rules.specs.Copy.{Entry, released, packagesIn, copy}
+use Rattle.rules.specs.Copy.{Entry, released, copyMessage, copyBytes, packagesIn, copy}
 use Rattle.rules.specs.Claims.{Careful}
 use Rattle.numbered.specs.Numbering.{Running, nextNumber, numbersAfter, numberedMessages, numberedBytes, State, runningIn}
 use Rattle.numbered.specs.Quota.{mostIds, badState, Taken, takenFrom, messageOf, bytesTaken, Report, asCopy}
@@ -81,6 +81,13 @@ abbrev pub NumbersTrue : Type 0
 NumbersTrue = (state : State) → StateFits state → (es : List Entry) (x : ℕ)
     → nextNumber x (numbersAfter (runningIn state) es) ≡ (nextNumber x (runningIn state) + count x (map (λ (e : Entry). e .id) es)) % 2 ^ 32
 
+-- The sequence number of an entry's message is the next number of its id and one more for each of the entries before it with that id, modulo 2^32.
+-- The entries behind it are numbered on.
+abbrev pub SequenceCountedOn : Type 0
+SequenceCountedOn = (state : State) → StateFits state → (before : List Entry) (e : Entry) (behind : List Entry) → numberedMessages (runningIn state) (before ++ e ∷ behind)
+    ≡ numberedMessages (runningIn state) before ++ copyMessage ((nextNumber (e .id) (runningIn state) + count (e .id) (map (λ (x : Entry). x .id) before)) % 2 ^ 32) e
+    ∷ numberedMessages (numbersAfter (runningIn state) (before ++ e ∷ [])) behind
+
 -- Where state, sheet, size and messages pass, IDS is given exactly if the state could not hold all ids, and the place is the message with which they become too many.
 pub record TooMany (rows : List Row) (ns : List Running) (taken : List Taken) (place : ℕ) : Type 0 where
   pub before : List Taken
@@ -106,6 +113,37 @@ StepRoom = (input sheetBytes : List ℕ) (quota : ℕ) (state : State) (buffer :
     → length (numbersAfter (runningIn state) (released rows (map messageOf taken))) ≤ mostIds
     → length buffer < length (numberedBytes (runningIn state) (released rows (map messageOf taken)))
     → step input sheetBytes quota state buffer ≡ (nothing ROOM (length (numberedBytes (runningIn state) (released rows (map messageOf taken)))), state, buffer)
+
+-- With room the step is done: it handles the messages that are taken, and consumes their bytes.
+abbrev pub StepDone : Type 0
+StepDone = (input sheetBytes : List ℕ) (quota : ℕ) (state : State) (buffer : List ℕ) (rows : List Row) (taken : List Taken)
+    → badState mostIds state ≡ false → sheet sheetBytes ≡ good rows → length input ≤ mostBytes → takenFrom input quota ≡ good taken
+    → length (numbersAfter (runningIn state) (released rows (map messageOf taken))) ≤ mostIds
+    → length (numberedBytes (runningIn state) (released rows (map messageOf taken))) ≤ length buffer
+    → (step input sheetBytes quota state buffer .0 .number ≡ 0) × (step input sheetBytes quota state buffer .0 .handled ≡ length taken) × (step input sheetBytes quota state buffer .0 .consumed ≡ bytesTaken taken)
+
+-- The refusals that come before a 65th id and ROOM, in their order, each where what is looked at before it passes: the state, the sheet, the size, the messages within the quota.
+-- With any refusal nothing but number and place is reported, and state and buffer stay.
+pub record StepRefuses (input sheetBytes : List ℕ) (quota : ℕ) (state : State) (buffer : List ℕ) : Type 0 where
+  pub bad-state : badState mostIds state ≡ true → step input sheetBytes quota state buffer ≡ (nothing IDS 0, state, buffer)
+  pub bad-sheet : (n p : ℕ) → badState mostIds state ≡ false → sheet sheetBytes ≡ bad n p → step input sheetBytes quota state buffer ≡ (nothing n p, state, buffer)
+  pub large : (rows : List Row) → badState mostIds state ≡ false → sheet sheetBytes ≡ good rows → mostBytes < length input
+      → step input sheetBytes quota state buffer ≡ (nothing LARGE mostBytes, state, buffer)
+  pub bad-message : (rows : List Row) (n p : ℕ) → badState mostIds state ≡ false → sheet sheetBytes ≡ good rows → length input ≤ mostBytes → takenFrom input quota ≡ bad n p
+      → step input sheetBytes quota state buffer ≡ (nothing n p, state, buffer)
+  pub any : (step input sheetBytes quota state buffer .0 .number ≡ 0 → ⊥)
+      → step input sheetBytes quota state buffer ≡ (nothing (step input sheetBytes quota state buffer .0 .number) (step input sheetBytes quota state buffer .0 .place), state, buffer)
+
+-- The messages within a quota are refused exactly as all messages of the input are, where fewer messages than the quota stand before the one that is refused.
+pub record RefusedWithin (input : List ℕ) (quota n p : ℕ) : Type 0 where
+  pub place : ℕ
+  pub before : List Message
+  pub read : items message zero zero (take place input) ≡ good before
+  pub few : length before < quota
+  pub refused : message place (drop place input) ≡ bad n p
+
+abbrev pub QuotaRefuses : Type 0
+QuotaRefuses = (input : List ℕ) (quota n p : ℕ) → (takenFrom input quota ≡ bad n p) ↔ ((items message zero zero input ≡ bad n p) × RefusedWithin input quota n p)
 
 -- With no id held and a quota above all, a step is the single copy, refusals included, unless the ids are too many.
 abbrev pub FirstStepCopies : Type 0
@@ -158,6 +196,11 @@ RunAsOne = (sheetBytes : List ℕ) (state end : State) (all joined : List ℕ) �
 abbrev pub RunRead : Type 0
 RunRead = (sheetBytes : List ℕ) (state end : State) (all joined : List ℕ) → StateFits state → Bytes all → Run sheetBytes state end all joined
     → (es : List Entry) → releasedOfAny all sheetBytes ≡ good es → items message zero zero joined ≡ good (numberedMessages (runningIn state) es)
+
+-- From a state with no id held the joined outputs are the copy itself, byte for byte, as long as fewer entries are released than there are sequence numbers.
+abbrev pub FirstRunCopies : Type 0
+FirstRunCopies = (sheetBytes : List ℕ) (state end : State) (all joined : List ℕ) → StateFits state → state .held ≡ 0 → Run sheetBytes state end all joined
+    → (es : List Entry) → releasedOfAny all sheetBytes ≡ good es → length es < 2 ^ 32 → joined ≡ copyBytes es
 
 -- ---- Demand 3, of the joined outputs of two such runs from one first state, at any length.
 
