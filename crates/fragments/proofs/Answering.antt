@@ -156,7 +156,7 @@ whole-fits : (w : Fragment) (size : ℕ) → length (w .payload) ≤ size → cu
 unfolding cutWhole
 whole-fits w size l = rw (le-leb (length (w .payload)) size l, cutWhole)
 
-whole-full : (w : Fragment) (size : ℕ) → size < length (w .payload) → 54 < length (w .options) → cutWhole size w ≡ bad OPTION 24
+pub whole-full : (w : Fragment) (size : ℕ) → size < length (w .payload) → 54 < length (w .options) → cutWhole size w ≡ bad OPTION 24
 unfolding cutWhole fragmentsOf
 whole-full w size l h = rw (lt-leb (length (w .payload)) size l, cutWhole) (halt _ _ _ _ (lt-ltb 60 (length (w .options) + 6) (omega arith)))
 

@@ -15,7 +15,7 @@ use Rattle.rules.specs.Packages.{pieceOf}
 use Rattle.rules.specs.Message.{head, payload, Message, message}
 use Rattle.rules.specs.Writer.{write}
 use Rattle.rules.specs.Clean.{cleanForm}
-use Rattle.rules.specs.Buffer.{fitted}
+use Rattle.rules.specs.Buffer.{stored, fitted}
 use Rattle.rules.specs.Claims.{Careful, TellsApart}
 use Rattle.rules.proofs.Apart.{beside}
 use Rattle.refusal.specs.Numbers.{GAP}
@@ -30,10 +30,12 @@ use Rattle.rules.proofs.Kept.{careful-sets, careful-none, careful-stored, take-
 use Rattle.fragments.specs.Fragment.{Fragment, fragment, fragmentBytes, bytesOf, payloadsOf}
 use Rattle.fragments.specs.Cutting.{wholeOf, cutInto, CutAnswer, roomForAll, cutStored, cutter}
 use Rattle.fragments.specs.Joining.{joinedWith, atStart, cleanJoined, joined, joiner}
-use Rattle.fragments.specs.Claims.{WholeSet, fragmentsIn, CutRead, CutInOrder, CutEach, CutPayload, CutFits, CutFilled, CutCount, CutJoined, WholeJoined, GapExactly, JoinGap, JoinRefusals, JoinClean, JoinNotLonger, BuffersKept, Writes, RoomRefused}
+use Rattle.fragments.specs.Claims.{WholeSet, fragmentsIn, CutRead, CutInOrder, CutEach, CutPayload, CutFits, CutFilled, CutCount, CutRefusedExactly, CutJoined, WholeJoined, GapExactly, JoinGap, JoinRefusals, JoinRefusedExactly, JoinClean, JoinNotLonger, BuffersKept, Writes, RefusalsTold, RoomRefused}
 use Rattle.fragments.specs.Worked.{WorkedCuts, WorkedJoins}
 use Rattle.fragments.proofs.Worked as hand
 use Rattle.fragments.proofs.Each as each
+use Rattle.fragments.proofs.Uncut as uncut
+use Rattle.fragments.proofs.Unjoined as unjoined
 use Rattle.fragments.proofs.Again.{Valid, fragment-again, payload-again}
 use Rattle.fragments.proofs.From.{set-read}
 use Rattle.fragments.proofs.Order.{Few, set-placed, placed-set, Decided, kept, gap, decided, gap-at, spots-read, all-few}
@@ -86,6 +88,9 @@ cut-filled size s fs b e = cut-of size s fs b e .cuts .filled
 pub cut-count : CutCount
 cut-count size s fs b e = cut-of size s fs b e .cuts .count
 
+pub cut-refused-exactly : CutRefusedExactly
+cut-refused-exactly size s n p = (uncut.refused size s, uncut.refuses size s)
+
 -- ---- joining
 
 pub cut-joined : CutJoined
@@ -127,6 +132,9 @@ join-refusals s spots n q b l e w z = go (decided none 0 0 s e)
     go : Decided none 0 0 s spots → ((n ≡ STANDARD) ⊎ (n ≡ PACKAGE) ⊎ (n ≡ COUNT)) × (q ≡ 0)
     go (kept r p) = refused-joined s (fragmentsIn spots) n q l (reads-all none 0 0 s b l r) w z
     go (gap k r x i) = absurd (x (set-placed w))
+
+pub join-refused-exactly : JoinRefusedExactly
+join-refused-exactly s n p = (unjoined.refused s, unjoined.refuses s)
 
 -- GAP is none of these three
 no-gap : (GAP ≡ STANDARD) ⊎ (GAP ≡ PACKAGE) ⊎ (GAP ≡ COUNT) → ⊥
@@ -209,6 +217,10 @@ writes-all = record {
       (ap (λ (r : CutAnswer × List ℕ). r .0) q, ap (λ (r : CutAnswer × List ℕ). take (length (bytesOf fs)) (r .1)) q ∙ take-sets buffer (bytesOf fs) l);
   joiner = λ s buffer c e l. writes buffer c (joined s) e l;
 }
+
+pub refusals-told : RefusalsTold
+unfolding cutter cutStored joiner stored
+refusals-told = record { cutter = λ size s buffer n p e. ap (cutStored buffer) (stop _ _ e); joiner = λ s buffer n p e. ap (stored buffer) (stop _ _ e) }
 
 pub room-refused : RoomRefused
 unfolding joiner cutter cutStored roomForAll fitted

@@ -26,7 +26,7 @@ use Rattle.fragments.specs.Stored.{WholeOptions, scan, starts, headerAt,
 use Rattle.fragments.proofs.Again.{Valid}
 use Rattle.fragments.proofs.Readings.{Read, reads}
 use Rattle.fragments.proofs.From.{from-next, from-gap, from-stop, from-end, from-missing}
-use Rattle.fragments.proofs.Scan.{scan-append, starts-append, starts-few}
+use Rattle.fragments.proofs.Scan.{words-append, starts-few}
 use Rattle.fragments.proofs.Order.{either, says, false≢true}
 
 -- ---- a header that was read, and its fragment
@@ -52,7 +52,7 @@ pub record Headed (s : List ℕ) (i : ℕ) (g : Head) (n : ℕ) : Type 0 where
 part-of : (s : List ℕ) (i a e : ℕ) → part a e (drop i s) ≡ part (i + a) (i + e) s
 part-of s i a e = let z : i + e - (i + a) ≡ e - a = omega arith in rw (z, drop-drop)
 
-short : (p : ℕ) (t : List ℕ) (h : Head) (n : ℕ) → optionRunLength p t h ≡ good n → n ≤ 4 * h .words
+pub short : (p : ℕ) (t : List ℕ) (h : Head) (n : ℕ) → optionRunLength p t h ≡ good n → n ≤ 4 * h .words
 unfolding optionRunLength
 short p t h n e =
     let (c, o) = came-after _ _ e in
@@ -221,6 +221,7 @@ module _ (s : List ℕ) (h : Head) (i last q o : ℕ) (st : Passed) (w : Gatheri
         let b : Stands (w .prev) (k .held) = stands (w .prev) (k .held) (follows-is ∙ e) in
         let len : i + g .size - (i + payloadStart g) ≡ length (k .held .payload) = omega (arith, k .long) in
         let p = payloads-snoc (w .first ∷ w .more) (k .held) in
+        let a = words-append 0 (payloadsOf (w .first ∷ w .more)) (k .held .payload) (rw (w .total) (w .words)) in
         record {
           first = w .first;
           more = w .more ++ (k .held ∷ []);
@@ -237,8 +238,8 @@ module _ (s : List ℕ) (h : Head) (i last q o : ℕ) (st : Passed) (w : Gatheri
           nanos = b .nanos ∙ w .nanos;
           flags = b .flags ∙ w .flags;
           total = ap length p ∙ length-append (payloadsOf (w .first ∷ w .more)) (k .held .payload) ∙ omega (arith, w .total, len);
-          state = ap (scan 0) p ∙ scan-append 0 (payloadsOf (w .first ∷ w .more)) (k .held .payload) (rw (w .total) (w .words)) ∙ rw (w .state, k .payload) (sym f);
-          packages = ap (starts 0) p ∙ starts-append 0 (payloadsOf (w .first ∷ w .more)) (k .held .payload) (rw (w .total) (w .words)) ∙ rw (w .state, w .packages, k .payload) (sym c);
+          state = ap (scan 0) p ∙ a .0 ∙ rw (w .state, k .payload) (sym f);
+          packages = ap (starts 0) p ∙ a .1 ∙ rw (w .state, w .packages, k .payload) (sym c);
           words = omega (arith, w .words, len, k .valid .words);
           most = omega (arith, w .most, k .start);
         }

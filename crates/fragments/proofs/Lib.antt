@@ -23,5 +23,7 @@ pub mod Keeping
 pub mod Payloads
 pub mod Finishing
 pub mod Each
+pub mod Uncut
+pub mod Unjoined
 pub mod Worked
 pub mod Claims

@@ -14,6 +14,7 @@ use Rattle.rules.specs.Outcome.{good, bad}
 use Rattle.refusal.specs.Numbers.{GAP}
 use Rattle.rules.specs.Items.{items, All, all-nil, all-cons}
 use Rattle.rules.proofs.Outcomes.{pass, halt, step, stepped, fronted, front-of, both, good-inj, stop-front, neither}
+use Rattle.rules.proofs.Walk.{items-all}
 use Rattle.rules.specs.Bytes.{word}
 use Rattle.rules.specs.Options.{optionSize}
 use Rattle.fragments.specs.Fragment.{WHOLE, FIRST, MIDDLE, LAST, Fragment, parts, isOffset, offsetIn, offsetOf, fragmentOf, fragment, nextNumber}
@@ -120,6 +121,14 @@ whole-alone f z (more {f = g} i r) = absurd (go i)
 pub false≢true : _≡_ {A = Bool} false true → ⊥
 false≢true e = let z : _≡_ {A = ℕ} 0 1 = ap (λ (b : Bool). elim b [ true ↦ 1 | false ↦ 0 ]) e in omega arith
 
+pub never-true : (b : Bool) → (b ≡ true → ⊥) → b ≡ false
+never-true true h = absurd (h refl)
+never-true false h = refl
+
+pub never-false : (b : Bool) → (b ≡ false → ⊥) → b ≡ true
+never-false true h = refl
+never-false false h = absurd (h refl)
+
 pub placed-set : {fs : List Fragment} → All Few fs → Placed none fs → WholeSet fs
 unfolding inPlace begins complete
 placed-set all-nil (done c) = absurd (false≢true c)
@@ -207,15 +216,15 @@ decided b zero p (x ∷ s) {spots} e =
 
 -- ---- what can be continued, and what not
 
-chain-placed : {b e : Option Fragment} {fs : List Fragment} (rest : List Fragment) → Chain b fs e → Placed e rest → Placed b (fs ++ rest)
+pub chain-placed : {b e : Option Fragment} {fs : List Fragment} (rest : List Fragment) → Chain b fs e → Placed e rest → Placed b (fs ++ rest)
 chain-placed rest link-none w = w
 chain-placed rest (link t c) w = more t (chain-placed rest c w)
 
-placed-chain : {b e : Option Fragment} {fs : List Fragment} (rest : List Fragment) → Chain b fs e → Placed b (fs ++ rest) → Placed e rest
+pub placed-chain : {b e : Option Fragment} {fs : List Fragment} (rest : List Fragment) → Chain b fs e → Placed b (fs ++ rest) → Placed e rest
 placed-chain rest link-none w = w
 placed-chain rest (link t c) (more u w) = placed-chain rest c w
 
-chain-few : {A : Type 0} {P : A → Type 0} (l m : List A) → All P l → All P m → All P (l ++ m)
+pub chain-few : {A : Type 0} {P : A → Type 0} (l m : List A) → All P l → All P m → All P (l ++ m)
 chain-few l m all-nil h = h
 chain-few l m (all-cons {l = k} a r) h = all-cons a (chain-few k m r h)
 
@@ -301,17 +310,11 @@ spots-read zero p (x ∷ s) {spots} e =
 
 -- ---- bits 5-4 of what is read
 
-bits-few : (p : ℕ) (s : List ℕ) (r : Fragment × ℕ) → fragment p s ≡ good r → Few (r .0)
+pub bits-few : (p : ℕ) (s : List ℕ) (r : Fragment × ℕ) → fragment p s ≡ good r → Few (r .0)
 unfolding fragment fragmentOf
 bits-few p s r e =
     let (n, o, e) = stepped _ _ e in
     subst (λ (k : Fragment × ℕ). k .0 .bits < 4) (good-inj e) (omega arith)
 
 pub all-few : (k p : ℕ) (s : List ℕ) {fs : List Fragment} → items fragment k p s ≡ good fs → All Few fs
-unfolding items
-all-few k p [] {fs} e = let q : [] ≡ fs = cc in rw (← q) all-nil
-all-few (suc k) p (x ∷ s) e = all-few k (suc p) s e
-all-few zero p (x ∷ s) {fs} e =
-    let (r, g, d) = stepped _ _ e in
-    let (l, i, m) = fronted _ _ d in
-    rw (← m) (all-cons (bits-few p (x ∷ s) r g) (all-few (r .1 - 1) (suc p) s i))
+all-few = items-all fragment bits-few

@@ -1,18 +1,19 @@
 -- The demands as statements, to be read without any proof. proofs/Claims.antt proves each.
 use Prim.Native.Nat.{ℕ, _+_, _*_, _%_, _≤_, _<_}
 use mathlib.Core.Path.{_≡_}
-use mathlib.Core.Logic.{_⊎_}
+use mathlib.Core.Logic.{_↔_, _⊎_}
 use mathlib.Core.List.{List, [], _∷_, _++_, map}
 use mathlib.Core.Option.{some}
-use lib.ListN.{length, take}
-use Rattle.rules.specs.Outcome.{Outcome, good, bad, _>>=_, STANDARD, PACKAGE, COUNT, ROOM}
+use lib.ListN.{length, take, drop}
+use Rattle.rules.specs.Outcome.{Outcome, good, bad, _>>=_, LENGTH, OPTION, STANDARD, PACKAGE, LARGE, COUNT, ROOM}
 use Rattle.refusal.specs.Numbers.{GAP}
-use Rattle.rules.specs.Bytes.{Bytes}
+use Rattle.rules.specs.Bytes.{Bytes, join}
 use Rattle.rules.specs.Items.{items, All}
-use Rattle.rules.specs.Message.{mostBytes, head, payload, Message, message}
+use Rattle.rules.specs.Options.{mostOptionBytes, kindOf}
+use Rattle.rules.specs.Message.{headerBytes, mostBytes, head, payload, Message, message}
 use Rattle.rules.specs.Clean.{cleanForm}
 use Rattle.rules.specs.Claims.{Careful}
-use Rattle.fragments.specs.Fragment.{WHOLE, FIRST, MIDDLE, LAST, Fragment, offsetOption, offsetOf, fragment, fragmentBytes, bytesOf, payloadsOf, nextNumber}
+use Rattle.fragments.specs.Fragment.{WHOLE, FIRST, MIDDLE, LAST, Fragment, optionsOf, offsetOption, offsetOf, fragment, fragmentBytes, bytesOf, payloadsOf, nextNumber}
 use Rattle.fragments.specs.Cutting.{wholeOf, fragmentWith, cutInto, cutter}
 use Rattle.fragments.specs.Joining.{cleanJoined, joined, joiner}
 
@@ -88,6 +89,44 @@ abbrev pub CutCount : Type 0
 CutCount = (size : ℕ) (s : List ℕ) (fs : List Fragment) → Bytes s → cutInto size s ≡ good fs → size < length (payloadsOf fs)
     → (length (payloadsOf fs) ≤ length fs * size) × (length fs * size < length (payloadsOf fs) + size)
 
+-- a size that may be given: a multiple of 4, from 4 up
+pub record SizeAllowed (size : ℕ) : Type 0 where
+  pub least : 4 ≤ size
+  pub words : size % 4 ≡ 0
+
+-- none of the options is 0x86
+abbrev pub WithoutOffset : List (List ℕ) → Type 0
+WithoutOffset options = All (λ (option : List ℕ). kindOf option ≡ 0x86 → ⊥) options
+
+-- q is the place of the first 0x86 among the options, the first of which stands at place p
+pub record OffsetAt (p : ℕ) (options : List (List ℕ)) (q : ℕ) : Type 0 where
+  pub before : List (List ℕ)
+  pub option : List ℕ
+  pub behind : List (List ℕ)
+  pub split : options ≡ before ++ (option ∷ behind)
+  pub none : WithoutOffset before
+  pub kind : kindOf option ≡ 0x86
+  pub place : q ≡ p + length (join before)
+
+-- s is not too large, and its first message passes every check and has the record m
+pub record Passes (s : List ℕ) (m : Message) : Type 0 where
+  pub small : length s ≤ mostBytes
+  pub bytes : ℕ
+  pub read : message 0 s ≡ good (m, bytes)
+
+-- why cutting is refused, in the order of the tests, and at which place
+pub data CutRefused (size : ℕ) (s : List ℕ) : ℕ → ℕ → Type 0 where
+  large : mostBytes < length s → CutRefused size s LARGE mostBytes
+  bad-message : {n p : ℕ} → length s ≤ mostBytes → message 0 s ≡ bad n p → CutRefused size s n p
+  bad-size : {m : Message} → Passes s m → (SizeAllowed size → ⊥) → CutRefused size s LENGTH 0
+  has-offset : {m : Message} {p : ℕ} → Passes s m → SizeAllowed size → OffsetAt headerBytes (optionsOf (m .options)) p → CutRefused size s OPTION p
+  no-place : {m : Message} → Passes s m → SizeAllowed size → WithoutOffset (optionsOf (m .options)) → size < length (wholeOf m .payload)
+      → mostOptionBytes < length (m .options) + length (offsetOption 0) → CutRefused size s OPTION headerBytes
+
+-- Cutting is refused exactly so.
+abbrev pub CutRefusedExactly : Type 0
+CutRefusedExactly = (size : ℕ) (s : List ℕ) (n p : ℕ) → (cutInto size s ≡ bad n p) ↔ CutRefused size s n p
+
 -- ---- Joining.
 
 -- Joining what was cut, if it has at most 65,536 bytes, gives the clean form.
@@ -132,6 +171,25 @@ abbrev pub JoinRefusals : Type 0
 JoinRefusals = (s : List ℕ) (spots : List (ℕ × Fragment)) (n q : ℕ) → Bytes s → length s ≤ mostBytes → items spot 0 0 s ≡ good spots → WholeSet (fragmentsIn spots)
     → cleanJoined (fragmentsIn spots) ≡ bad n q → ((n ≡ STANDARD) ⊎ (n ≡ PACKAGE) ⊎ (n ≡ COUNT)) × (q ≡ 0)
 
+-- s is not too large; the fragments in its first q bytes, fs, each pass checks 1 to 7, and they are the beginning of a whole set in order
+pub record InOrderTo (s : List ℕ) (q : ℕ) (fs : List Fragment) : Type 0 where
+  pub small : length s ≤ mostBytes
+  pub read : items fragment 0 0 (take q s) ≡ good fs
+  pub continued : Continued fs
+
+-- why joining is refused, and at which place: behind fragments in order, the next one does not pass checks 1 to 7, or does not continue them, or the last is missing;
+-- or they are a whole set, and what they make up is refused
+pub data JoinRefused (s : List ℕ) : ℕ → ℕ → Type 0 where
+  too-large : mostBytes < length s → JoinRefused s LARGE mostBytes
+  bad-fragment : {q n p : ℕ} {fs : List Fragment} → InOrderTo s q fs → q < length s → fragment q (drop q s) ≡ bad n p → JoinRefused s n p
+  gap : {q n : ℕ} {fs : List Fragment} {f : Fragment} → InOrderTo s q fs → fragment q (drop q s) ≡ good (f, n) → (Continued (fs ++ (f ∷ [])) → ⊥) → JoinRefused s GAP q
+  last-missing : {fs : List Fragment} → InOrderTo s (length s) fs → (WholeSet fs → ⊥) → JoinRefused s GAP (length s)
+  bad-whole : {n p : ℕ} {fs : List Fragment} → InOrderTo s (length s) fs → WholeSet fs → cleanJoined fs ≡ bad n p → JoinRefused s n p
+
+-- Joining is refused exactly so.
+abbrev pub JoinRefusedExactly : Type 0
+JoinRefusedExactly = (s : List ℕ) (n p : ℕ) → (joined s ≡ bad n p) ↔ JoinRefused s n p
+
 -- What is joined passes every check and is clean: it is its own clean form.
 abbrev pub JoinClean : Type 0
 JoinClean = (s c : List ℕ) → Bytes s → joined s ≡ good c → cleanForm c ≡ good c
@@ -150,6 +208,11 @@ pub record Writes : Type 0 where
       → (cutter size s buffer .0 ≡ record { number = 0; place = 0; bytes = length (bytesOf fs); fragments = length fs }) × (take (length (bytesOf fs)) (cutter size s buffer .1) ≡ bytesOf fs)
   pub joiner : (s buffer c : List ℕ) → joined s ≡ good c → length c ≤ length buffer
       → (joiner s buffer .0 ≡ record { number = 0; place = 0; bytes = length c }) × (take (length c) (joiner s buffer .1) ≡ c)
+
+-- What cannot be cut or joined is told so: its number and place, nothing written, and the buffer as it was.
+pub record RefusalsTold : Type 0 where
+  pub cutter : (size : ℕ) (s buffer : List ℕ) (n p : ℕ) → cutInto size s ≡ bad n p → cutter size s buffer ≡ (record { number = n; place = p; bytes = 0; fragments = 0 }, buffer)
+  pub joiner : (s buffer : List ℕ) (n p : ℕ) → joined s ≡ bad n p → joiner s buffer ≡ (record { number = n; place = p; bytes = 0 }, buffer)
 
 pub record RoomRefused : Type 0 where
   pub cutter : (size : ℕ) (s buffer : List ℕ) (fs : List Fragment) → cutInto size s ≡ good fs → length buffer < length (bytesOf fs)
