@@ -20,7 +20,7 @@ use Rattle.capture.specs.Twins.{twin}
 use Rattle.capture.specs.Frame.{frameOf}
 use Rattle.capture.specs.Reading.{Taken, takenOf, taken, recordingOf, ReadAnswer, roomForTaken, readCapture}
 use Rattle.capture.specs.Writing.{packetOf, datagrams, fileOf, roomForFile, WriteAnswer, writeCapture}
-use Rattle.capture.specs.Claims.{Fits, FileRead, FileOnly, OrdersAlike, TwinsAlike, TwinIs, readAnswer, ReadWrites, CountsAddUp, RecordingValid, ReadNotLonger, TakenInOrder, one, TakenExactly, PortBehind, WriteWrites, OneEach, FileLength, ChecksumRight, TimeDown, LargePlace, WrittenRead, OtherPort, BuffersKept, RoomRefused}
+use Rattle.capture.specs.Claims.{Fits, FileRead, FileOnly, OrdersAlike, TwinsAlike, TwinIs, readAnswer, ReadWrites, CountsAddUp, RecordingValid, ReadNotLonger, TakenInOrder, one, TakenExactly, PortBehind, WriteWrites, OneEach, FileLength, ChecksumRight, TimeDown, LargePlace, WrittenRead, OtherPort, BuffersKept, RoomRefused, ReadRefusedExactly, WriteRefusedExactly}
 use Rattle.capture.proofs.Frames.{checksum-right}
 use Rattle.capture.proofs.Orders.{record-length, file-length, packets-again}
 use Rattle.capture.proofs.Counting.{adds-up, in-order}
@@ -28,6 +28,7 @@ use Rattle.capture.proofs.Recorded as Recorded
 use Rattle.capture.proofs.Classes as Classes
 use Rattle.capture.proofs.Larges as Larges
 use Rattle.capture.proofs.Only as Only
+use Rattle.capture.proofs.Refusals as Refusals
 use Rattle.capture.proofs.Turning as Turning
 use Rattle.capture.proofs.Turning.{packets-twin}
 use Rattle.capture.proofs.Datagrams.{packetFor, lengths, Small, Carries, carries, taken-own, taken-other, all-fit}
@@ -165,6 +166,12 @@ buffers-kept = record {
 
 pub room-refused : RoomRefused
 room-refused = record { read = read-roomless; write = write-roomless }
+
+pub read-refused-exactly : ReadRefusedExactly
+read-refused-exactly = Refusals.read-refused-exactly
+
+pub write-refused-exactly : WriteRefusedExactly
+write-refused-exactly = Refusals.write-refused-exactly
 
 -- ---- worked by hand
 

@@ -6,6 +6,7 @@ pub mod Recorded
 pub mod Datagrams
 pub mod Larges
 pub mod Only
+pub mod Cuts
 pub mod Turning
 pub mod Tests
 pub mod Classing
@@ -13,6 +14,7 @@ pub mod Spotting
 pub mod Tallying
 pub mod Classes
 pub mod Answers
+pub mod Refusals
 pub mod Measuring
 pub mod Fronts
 pub mod Weighing

@@ -17,7 +17,8 @@ use Rattle.rules.proofs.Outcomes.{passed, stepped, fronted, both, good-inj, goo
 use Rattle.rules.proofs.Numbers.{put32-word, put16-half, word-lt, bytes-drop, bytes-tail, bytes-cons, bytes-nil}
 use Rattle.rules.proofs.Loops.{drop-pred}
 use Rattle.capture.specs.File.{Order, big, little, halfIn, wordIn, put16In, put32In, magic, headerGood, orderOf, Packet, packet, packets, recordIn, fileIn}
-use Rattle.capture.specs.Claims.{Fits, FileOnly}
+use Rattle.capture.specs.Claims.{Fits, FileOf, FileOnly}
+use Rattle.capture.proofs.Orders.{word-behind, record-length}
 
 -- a number that was read, written again, in a byte order
 put-word : (o : Order) (s t : List ℕ) → Bytes s → 4 ≤ length s → put32In o (wordIn o s 0) t ≡ take 4 s ++ t
@@ -46,9 +47,7 @@ put-half little (a ∷ c ∷ s) t b l =
     rw (x, y)
 
 word-at : (o : Order) (k : ℕ) (s : List ℕ) → wordIn o (drop k s) 0 ≡ wordIn o s k
-unfolding wordIn word
-word-at big k s = simp (getD-drop, add-zero)
-word-at little k s = simp (getD-drop, add-zero)
+word-at o k s = word-behind o k 0 s ∙ ap (wordIn o s) (add-zero k)
 
 half-at : (o : Order) (k : ℕ) (s : List ℕ) → halfIn o (drop k s) 0 ≡ halfIn o s k
 unfolding halfIn half
@@ -77,10 +76,11 @@ put-append big x s t = refl
 put-append little x s t = refl
 
 -- the record of a packet that was read
-record Back (o : Order) (s : List ℕ) (k : Packet) (n : ℕ) : Type 0 where
-  fit : Fits k
-  is : recordIn o k ++ drop n s ≡ s
-  least : 1 ≤ n
+pub record Back (o : Order) (s : List ℕ) (k : Packet) (n : ℕ) : Type 0 where
+  pub fit : Fits k
+  pub is : recordIn o k ++ drop n s ≡ s
+  pub size : length (recordIn o k) ≡ n
+  pub least : 1 ≤ n
 
 module _ (o : Order) (s : List ℕ) (b : Bytes s) (h : 16 + wordIn o s 8 ≤ length s) where
   abbrev held : Packet
@@ -101,10 +101,11 @@ module _ (o : Order) (s : List ℕ) (b : Bytes s) (h : 16 + wordIn o s 8 ≤ len
   back = record {
     fit = record { seconds = word-small o s b 0; micros = word-small o s b 4; original = word-small o s b 12; captured = rw long (word-small o s b 8) };
     is = whole;
+    size = record-length held o ∙ ap (λ (n : ℕ). 16 + n) long;
     least = omega arith;
   }
 
-read-back : (o : Order) (p : ℕ) (s : List ℕ) (k : Packet) (n : ℕ) → Bytes s → packet o p s ≡ good (k, n) → Back o s k n
+pub read-back : (o : Order) (p : ℕ) (s : List ℕ) (k : Packet) (n : ℕ) → Bytes s → packet o p s ≡ good (k, n) → Back o s k n
 unfolding packet
 read-back o p s k n b e =
     let (x, e) = passed _ _ _ _ e in
@@ -127,7 +128,7 @@ all-back o zero p (x ∷ s) b e =
     rw (← e) (record { fit = all-cons (w .fit) (v .fit); is = ap (λ (t : List ℕ). recordIn o (r .0) ++ t) (v .is ∙ sym (drop-pred (r .1) x s (w .least))) ∙ w .is })
 
 -- the file header
-order-good : (file : List ℕ) (o : Order) → orderOf file ≡ good o → headerGood o file ≡ true
+pub order-good : (file : List ℕ) (o : Order) → orderOf file ≡ good o → headerGood o file ≡ true
 unfolding orderOf
 order-good file o e = go (headerGood big file) refl (headerGood little file) refl
   where
@@ -136,7 +137,7 @@ order-good file o e = go (headerGood big file) refl (headerGood little file) ref
     go false x true y = let w : _≡_ {A = Outcome Order} (good little) (good o) = rw (x, y, orderOf) at e in subst (λ (z : Order). headerGood z file ≡ true) (good-inj w) y
     go false x false y = let w : _≡_ {A = Outcome Order} (bad CAPTURE 0) (good o) = rw (x, y, orderOf) at e in absurd (good≢bad w)
 
-header-is : (o : Order) (file : List ℕ) (ks : List Packet) → Bytes file → headerGood o file ≡ true → join (map (recordIn o) ks) ≡ drop 24 file → file ≡ fileIn o (take 12 (drop 8 file)) ks
+pub header-is : (o : Order) (file : List ℕ) (ks : List Packet) → Bytes file → headerGood o file ≡ true → join (map (recordIn o) ks) ≡ drop 24 file → file ≡ fileIn o (take 12 (drop 8 file)) ks
 unfolding headerGood fileIn
 header-is o file ks b g j =
     let (x, link) = both _ _ g in
@@ -160,12 +161,14 @@ header-long o s e =
     let (x, _) = both (leb 24 (length s)) (eqb (wordIn o s 0) magic) x in
     leb-true 24 (length s) x
 
+unfoldable pub file-of : (o : Order) (file : List ℕ) (ks : List Packet) → Bytes file → headerGood o file ≡ true → All Fits ks → join (map (recordIn o) ks) ≡ drop 24 file → FileOf file ks
+file-of o file ks b g f j =
+    record { order = o; free = take 12 (drop 8 file); twelve = length-take-le 12 (drop 8 file) (omega (arith, header-long o file g, length-drop 8 file)); fit = f; is = header-is o file ks b g j }
+
 pub file-only : FileOnly
 unfolding packets
 file-only file ks b e =
     let (l, e) = passed _ _ _ _ e in
     let (o, h, i) = stepped _ _ e in
-    let g = order-good file o h in
-    let n = header-long o file g in
     let w = all-back o 0 24 (drop 24 file) (bytes-drop 24 file b) i in
-    record { order = o; free = take 12 (drop 8 file); twelve = length-take-le 12 (drop 8 file) (omega (arith, n, length-drop 8 file)); fit = w .fit; is = header-is o file ks b g (w .is) }
+    file-of o file ks b (order-good file o h) (w .fit) (w .is)

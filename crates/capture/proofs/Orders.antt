@@ -1,20 +1,21 @@
 -- Numbers, records and files in both byte orders: what is written is read again.
 use Prim.Native.Nat.{ℕ, _+_, _-_, _≤_, _<_}
 use mathlib.Core.Path.{_≡_, refl, ap, sym, subst, _∙_}
-use mathlib.Core.Bool.{true, false, _&&_}
+use mathlib.Core.Bool.{Bool, true, false, _&&_}
 use mathlib.Core.List.{List, [], _++_, map}
-use native.Mathlib.Nat.{add-zero, zero-add}
+use native.Mathlib.Nat.{add-assoc}
 use native.Mathlib.Omega.{arith}
-use borrow.Author.Tests.{le-leb, le-ltb}
-use lib.Dec.{eqb}
+use borrow.Author.Tests.{le-leb, le-ltb, lt-ltb}
+use lib.Dec.{ltb, eqb}
 use lib.ListN.{length, drop, length-append}
 use lib.Seq.{take-append-seam, drop-append-seam, drop-drop, getD-drop}
-use Rattle.rules.specs.Outcome.{good}
+use Rattle.rules.specs.Outcome.{good, bad}
+use Rattle.refusal.specs.Numbers.{CAPTURE}
 use Rattle.rules.specs.Bytes.{half, word, put32, join}
-use Rattle.rules.specs.Items.{All}
-use Rattle.rules.proofs.Outcomes.{pass, step}
+use Rattle.rules.specs.Items.{items, All}
+use Rattle.rules.proofs.Outcomes.{pass, halt, step}
 use Rattle.rules.proofs.Numbers.{word-put32}
-use Rattle.rules.proofs.Walk.{items-join}
+use Rattle.rules.proofs.Walk.{items-stop, items-join}
 use Rattle.capture.specs.File.{Order, big, little, halfIn, wordIn, put32In, magic, headerGood, orderOf, Packet, packet, packets, recordIn, fileIn}
 use Rattle.capture.specs.Claims.{Fits}
 
@@ -46,10 +47,19 @@ module _ (k : Packet) (f : Fits k) where
       (pass _ _ _ _ (le-ltb (16 + length (k .bytes) + length t) 16 (omega arith))
       (pass _ _ _ _ (le-ltb (16 + length (k .bytes) + length t) (16 + length (k .bytes)) (omega arith)) refl))
 
-word-behind : (o : Order) (n : ℕ) (s : List ℕ) → wordIn o s n ≡ wordIn o (drop n s) 0
+-- a record that the end cuts, in its header or behind it, is refused where it stands
+pub cut-refused : (o : Order) (p : ℕ) (s : List ℕ) → 1 ≤ length s → length s < 16 + wordIn o s 8 → items (packet o) 0 p s ≡ bad CAPTURE p
+unfolding packet
+cut-refused o p s l h = items-stop (packet o) p s l (go (ltb (length s) 16) refl)
+  where
+    go : (a : Bool) → ltb (length s) 16 ≡ a → packet o p s ≡ bad CAPTURE p
+    go true e = halt _ _ _ _ e
+    go false e = pass _ _ _ _ e (halt _ _ _ _ (lt-ltb (length s) (16 + wordIn o s 8) h))
+
+pub word-behind : (o : Order) (n k : ℕ) (s : List ℕ) → wordIn o (drop n s) k ≡ wordIn o s (n + k)
 unfolding wordIn word
-word-behind big n s = simp (getD-drop, add-zero, zero-add)
-word-behind little n s = simp (getD-drop, add-zero, zero-add)
+word-behind big n k s = simp (getD-drop, add-assoc)
+word-behind little n k s = simp (getD-drop, add-assoc)
 
 -- a file is read as its packets, in both byte orders
 module _ (free : List ℕ) (twelve : length free ≡ 12) (ks : List Packet) where
@@ -74,7 +84,7 @@ module _ (free : List ℕ) (twelve : length free ≡ 12) (ks : List Packet) wher
   file-length little = omega (arith, twelve, length-append free (put32In little 1 (join (map (recordIn little) ks))))
 
   linked : (o : Order) → wordIn o (fileIn o free ks) 20 ≡ 1
-  linked o = word-behind o 20 (fileIn o free ks) ∙ ap (λ (s : List ℕ). wordIn o s 0) (behind-twenty o) ∙ word-put o 1 _ (omega arith)
+  linked o = sym (word-behind o 20 0 (fileIn o free ks)) ∙ ap (λ (s : List ℕ). wordIn o s 0) (behind-twenty o) ∙ word-put o 1 _ (omega arith)
 
   versioned : (o : Order) → (true && eqb (wordIn o (fileIn o free ks) 0) magic && eqb (halfIn o (fileIn o free ks) 4) 2 && eqb (halfIn o (fileIn o free ks) 6) 4) ≡ true
   unfolding wordIn word halfIn half fileIn

@@ -9,16 +9,15 @@ use lib.Dec.{leb, ltb, eqb}
 use lib.ListN.{length, take, drop, length-append, length-drop, drop-of-length-le}
 use lib.Seq.{take-all, take-at, drop-at, drop-drop, take-append-seam, drop-append-seam, length-take-le}
 use Rattle.rules.specs.Outcome.{Outcome, good, bad, _>>=_, _∷>_}
-use Rattle.refusal.specs.Numbers.{CAPTURE}
 use Rattle.rules.specs.Bytes.{Bytes, at, half, word, part, join}
 use Rattle.rules.specs.Items.{items, All, all-nil, all-cons}
-use Rattle.rules.proofs.Outcomes.{both, pass, halt}
-use Rattle.rules.proofs.Walk.{items-next, items-stop}
+use Rattle.rules.proofs.Outcomes.{both, pass}
+use Rattle.rules.proofs.Walk.{items-next}
 use Rattle.rules.proofs.Loops.{drop-pred}
 use Rattle.capture.specs.File.{Order, big, little, halfIn, wordIn, magic, headerGood, orderOf, Packet, packet, packets, recordIn, fileIn}
 use Rattle.capture.specs.Twins.{other, turned4, turnedRecord, turnedRecords, turnedBehind, turnedHeader, twin, freeIn}
 use Rattle.capture.specs.Claims.{Fits}
-use Rattle.capture.proofs.Orders.{record-length, record-fields, behind-header, file-length, good-order}
+use Rattle.capture.proofs.Orders.{cut-refused, record-length, record-fields, behind-header, file-length, good-order}
 
 -- ---- records
 
@@ -45,12 +44,8 @@ next o (x ∷ s) l =
     ap (λ (t : List ℕ). turnedRecord o (x ∷ s) ++ t)
     (skipped o (16 + wordIn o (x ∷ s) 8 - 1) s ∙ ap (turnedRecords o 0) (sym (drop-pred (16 + wordIn o (x ∷ s) 8) x s (omega arith))))
 
--- a record that the file's end cuts, in its header or behind it
+-- a record whose header is cut, and one whose header is whole
 module _ (o : Order) (p : ℕ) (s : List ℕ) (l : 1 ≤ length s) where
-  pub cut-front : (t : Order) → length s < 16 → items (packet t) 0 p s ≡ bad CAPTURE p
-  unfolding packet
-  cut-front t h = items-stop (packet t) p s l (halt _ _ _ _ (lt-ltb (length s) 16 h))
-
   front-same : length s < 16 → turnedRecords o 0 s ≡ s
   unfolding turnedRecord turnedRecords
   front-same h = next o s l ∙ rw (lt-ltb (length s) 16 h, drop-of-length-le s {i = 16 + wordIn o s 8} (omega arith), turnedRecord, turnedRecords) (append-nil s)
@@ -59,10 +54,6 @@ module _ (o : Order) (p : ℕ) (s : List ℕ) (l : 1 ≤ length s) where
     turned-is : turnedRecords o 0 s ≡ turnedFront s (part 16 (16 + wordIn o s 8) s ++ turnedRecords o 0 (drop (16 + wordIn o s 8) s))
     unfolding turnedRecord
     turned-is = next o s l ∙ rw (le-ltb (length s) 16 h, turnedRecord)
-
-    pub cut-behind : (t : Order) (u : List ℕ) → 16 ≤ length u → wordIn t u 8 ≡ wordIn o s 8 → length u < 16 + wordIn o s 8 → items (packet t) 0 p u ≡ bad CAPTURE p
-    unfolding packet
-    cut-behind t u a e b = items-stop (packet t) p u (omega (arith, a)) (pass _ _ _ _ (le-ltb (length u) 16 a) (rw e (halt _ _ _ _ (lt-ltb (length u) (16 + wordIn o s 8) b))))
 
     whole : (t : Order) (u : List ℕ) → 16 + wordIn t u 8 ≤ length u
         → items (packet t) 0 p u ≡ (record { seconds = wordIn t u 0; micros = wordIn t u 4; original = wordIn t u 12; bytes = part 16 (16 + wordIn t u 8) u } ∷> items (packet t) 0 (p + (16 + wordIn t u 8)) (drop (16 + wordIn t u 8) u))
@@ -87,7 +78,7 @@ module _ (o : Order) (p : ℕ) (s : List ℕ) (l : 1 ≤ length s) where
   same-front : length s < 16 → Same o p s
   same-front h =
       let i = front-same o p s l h in
-      record { reads = ap (items (packet (other o)) 0 p) i ∙ cut-front o p s l (other o) h ∙ sym (cut-front o p s l o h); long = ap length i }
+      record { reads = ap (items (packet (other o)) 0 p) i ∙ cut-refused (other o) p s l (omega arith) ∙ sym (cut-refused o p s l (omega arith)); long = ap length i }
 
   module _ (h : 16 ≤ length s) where
     same-cut : length s < n → Same o p s
@@ -99,8 +90,7 @@ module _ (o : Order) (p : ℕ) (s : List ℕ) (l : 1 ≤ length s) where
         let k : length (turnedFront s (drop 16 s)) ≡ length s = omega (arith, length-drop 16 s) in
         record {
           reads =
-              ap (items (packet (other o)) 0 p) c ∙ cut-behind o p s l h (other o) (turnedFront s (drop 16 s)) (omega arith) (fields o s (drop 16 s) .2) (omega (arith, k))
-              ∙ sym (cut-behind o p s l h o s h refl a);
+              ap (items (packet (other o)) 0 p) c ∙ cut-refused (other o) p (turnedFront s (drop 16 s)) (omega arith) (omega (arith, k, fields o s (drop 16 s) .2)) ∙ sym (cut-refused o p s l a);
           long = ap length c ∙ k;
         }
 
