@@ -19,3 +19,4 @@ pub mod Twice
 pub mod Whole
 pub mod Alone
 pub mod Same
+pub mod Measured
