@@ -5,7 +5,7 @@
 ghost use mathlib.Core.Path.{_≡_};
 ghost use Prim.Native.Nat.{_+_, _≤_, _<_};
 ghost use mathlib.Core.List.{[], _∷_};
-ghost use lib.ListN.{length, take};
+ghost use lib.ListN.{length, getD, take};
 ghost use lib.Seq.{sets};
 ghost use Rattle.rules.specs.Sheet.{rowFits, grants, sheet, sheetRows};
 ghost use Rattle.rules.specs.Packages.{instant};
@@ -397,6 +397,30 @@ fn reaches(id: u64, simulated: bool, first: u64, last: u64, acquired: u64) -> bo
     (first <= id) & (id <= last) & !((acquired == 1) & simulated)
 }
 
+// Package ids, start and end of the row at place i of a table, to place n of the near rows. Where they fit, all four are read and stored
+// behind one test, so that the compiler moves two at a time.
+fn put_near(near: &mut [u64], n: usize, table: &[u64], i: usize)
+    requires { ⌜ n + 3 < 18446744073709551616 ⌝ }
+    requires { ⌜ i + 6 < length (now table) ⌝ }
+    ensures { λ _. ⌜ now (near .exit) ≡ sets (now (near .entry)) n (getD (now (table .entry)) (i + 2) 0 ∷ getD (now (table .entry)) (i + 3) 0 ∷ getD (now (table .entry)) (i + 4) 0 ∷ getD (now (table .entry)) (i + 5) 0 ∷ []) ⌝ }
+{
+    if n + 3 < near.len() {
+        near[n] = table[i + 2];
+        near[n + 1] = table[i + 3];
+        near[n + 2] = table[i + 4];
+        near[n + 3] = table[i + 5];
+    } else {
+        put_four(
+            near,
+            n,
+            table[i + 2],
+            table[i + 3],
+            table[i + 4],
+            table[i + 5],
+        );
+    }
+}
+
 // The near rows of a message, from place 0 of `near` on; says how many numbers they are.
 pub fn near_rows(table: &[u64], m: Source, near: &mut [u64]) -> usize
     ensures { λ r. ⌜ (r ≡ length (nearOf (m .mdid .0) (m .simulated) (now (table .entry)))) × (now (near .exit) ≡ sets (now (near .entry)) 0 (nearOf (m .mdid .0) (m .simulated) (now (table .entry)))) ⌝ }
@@ -407,14 +431,7 @@ pub fn near_rows(table: &[u64], m: Source, near: &mut [u64]) -> usize
     let mut i = 0;
     while 7 <= table.len() - i {
         if reaches(id, m.simulated, table[i], table[i + 1], table[i + 6]) {
-            put_four(
-                near,
-                n,
-                table[i + 2],
-                table[i + 3],
-                table[i + 4],
-                table[i + 5],
-            );
+            put_near(near, n, table, i);
             n += 4;
         }
         i += 7;

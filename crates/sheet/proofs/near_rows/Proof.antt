@@ -52,44 +52,8 @@ shared-slice-read-reaches-3 c = search needs
 reaches-requires : tie.Need-reaches-requires Inv-loop μ-loop
 reaches-requires c κs = search needs
 
-add-put-four : tie.Need-add-put-four Inv-loop μ-loop
-add-put-four c = search needs
-
-mul-put-four : tie.Need-mul-put-four Inv-loop μ-loop
-mul-put-four c = search needs
-
-shared-slice-read-put-four : tie.Need-shared-slice-read-put-four Inv-loop μ-loop
-shared-slice-read-put-four c = search needs
-
-add-put-four-2 : tie.Need-add-put-four-2 Inv-loop μ-loop
-add-put-four-2 c = search needs
-
-mul-put-four-2 : tie.Need-mul-put-four-2 Inv-loop μ-loop
-mul-put-four-2 c = search needs
-
-shared-slice-read-put-four-2 : tie.Need-shared-slice-read-put-four-2 Inv-loop μ-loop
-shared-slice-read-put-four-2 c = search needs
-
-add-put-four-3 : tie.Need-add-put-four-3 Inv-loop μ-loop
-add-put-four-3 c = search needs
-
-mul-put-four-3 : tie.Need-mul-put-four-3 Inv-loop μ-loop
-mul-put-four-3 c = search needs
-
-shared-slice-read-put-four-3 : tie.Need-shared-slice-read-put-four-3 Inv-loop μ-loop
-shared-slice-read-put-four-3 c = search needs
-
-add-put-four-4 : tie.Need-add-put-four-4 Inv-loop μ-loop
-add-put-four-4 c = search needs
-
-mul-put-four-4 : tie.Need-mul-put-four-4 Inv-loop μ-loop
-mul-put-four-4 c = search needs
-
-shared-slice-read-put-four-4 : tie.Need-shared-slice-read-put-four-4 Inv-loop μ-loop
-shared-slice-read-put-four-4 c = search needs
-
-put-four-requires : tie.Need-put-four-requires Inv-loop μ-loop
-put-four-requires c κs = search needs
+put-near-requires : tie.Need-put-near-requires Inv-loop μ-loop
+put-near-requires c κs = search needs
 
 add-n : tie.Need-add-n Inv-loop μ-loop
 add-n c = search needs
@@ -105,7 +69,7 @@ loop-again c =
     let r = c .before in
     let l = r .before .before .before .before .before .loop in
     ⊎-elim
-    (λ w. rw (w .9, w .10, w .6 .ensures) (gather-near _ _ _ _ _ _ _ (l .inv) (search needs) (sym (r .reaches .ensures) ∙ w .0 .taken)))
+    (λ w. rw (w .5, w .6, w .2 .ensures) (gather-near _ _ _ _ _ _ _ (l .inv) (search needs) (sym (r .reaches .ensures) ∙ w .0 .taken)))
     (λ w. rw (w .1, w .2) (gather-past _ _ _ _ _ _ _ (l .inv) (search needs) (sym (r .reaches .ensures) ∙ w .0 .left)))
     (c .if1 .came)
 
@@ -133,19 +97,7 @@ near-rows-spec =
     mul-reaches-3
     shared-slice-read-reaches-3
     reaches-requires
-    add-put-four
-    mul-put-four
-    shared-slice-read-put-four
-    add-put-four-2
-    mul-put-four-2
-    shared-slice-read-put-four-2
-    add-put-four-3
-    mul-put-four-3
-    shared-slice-read-put-four-3
-    add-put-four-4
-    mul-put-four-4
-    shared-slice-read-put-four-4
-    put-four-requires
+    put-near-requires
     add-n
     add-i
     loop-less
