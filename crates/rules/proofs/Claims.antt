@@ -15,8 +15,9 @@ use Rattle.rules.specs.Clean.{cleanForm, cleaner}
 use Rattle.rules.specs.Sheet.{Row}
 use Rattle.rules.specs.Copy.{Entry, packagesIn, Answer, releasedOf, reported, measurement, roomFor, answered, copy}
 use Rattle.rules.specs.Burst.{randomized, opening, randomizer, opener}
-use Rattle.rules.specs.Claims.{BuffersKept, PremisesMet, CountsChecked, OptionsExactly, CountExactly, WrittenRead, AcceptedValid, ReadValid, ReadWritten, PartsWritten, Writes, WholeRun, WriterWrites, CleanerWrites, SpotOfRecord, SpotExactly, CleanAlone, CleanTwice, CleanExactly, PackageExactly, WalkExactly, GrantedExactly, WindowsExactly, AcquiredOnly, RandomizerExactly, BurstExactly, SameCopies, DifferentCopies, CopyExactly, MeasuredFirst, SequenceCounted, ReleasedExactly, CopyPlain, TwoSheets, RowAdded, OneOutcome, Claims, partsOf}
+use Rattle.rules.specs.Claims.{BuffersKept, PremisesMet, CountsChecked, OptionsExactly, CountExactly, WrittenRead, AcceptedValid, ReadValid, ReadWritten, PartsWritten, Writes, WholeRun, WriterWrites, CleanerWrites, SpotOfRecord, SpotExactly, RefusalsExactly, CleanAlone, CleanTwice, CleanExactly, PackageExactly, WalkExactly, GrantedExactly, WindowsExactly, AcquiredOnly, RandomizerExactly, BurstExactly, SameCopies, DifferentCopies, CopyExactly, MeasuredFirst, SequenceCounted, ReleasedExactly, CopyPlain, TwoSheets, RowAdded, OneOutcome, Claims, partsOf}
 use Rattle.rules.proofs.Outcomes.{pass, passed, step, stepped, came-after, good-inj}
+use Rattle.rules.proofs.Reasons.{recording-refused, sheet-refused, measure-refused, copy-refused}
 use Rattle.rules.proofs.Kept.{careful-stored, careful-answered, kept-randomized, kept-opened, writes, roomless}
 use Rattle.rules.proofs.Cut as Cut
 use Rattle.rules.proofs.Passed.{sound, passes}
@@ -236,6 +237,9 @@ pub counts-checked : CountsChecked
 unfolding checkedRecording
 counts-checked s ms e = step _ _ e (rw (← messages-joined ms))
 
+pub refusals-exactly : RefusalsExactly
+refusals-exactly = record { recording = recording-refused; sheet = sheet-refused; measured = measure-refused; copied = copy-refused }
+
 pub sequence-counted : SequenceCounted
 sequence-counted = copyMessages-snoc
 
@@ -271,7 +275,7 @@ pub all-claims : Claims
 all-claims = record {
   buffers = buffers-kept;
   premises = (premises-met, accepted-is-valid, read-valid);
-  reading = (spot-of-record, spot-exactly, counts-checked, options-exactly, count-exactly, package-exactly, walk-exactly);
+  reading = (spot-of-record, spot-exactly, counts-checked, refusals-exactly, options-exactly, count-exactly, package-exactly, walk-exactly);
   writing = (written-read, read-written, parts-give-clean, writer-writes);
   cleaning = (cleaner-writes, clean-alone, clean-twice, clean-exactly);
   measuring = measured-first;

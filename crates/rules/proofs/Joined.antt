@@ -16,7 +16,7 @@ use Rattle.rules.proofs.Outcomes.{pass, step, front-of, passed, stepped
 use Rattle.rules.proofs.Walk.{items-next}
 
 -- where a row stands changes nothing of it, nor what follows it
-row-placed : (p q : ℕ) (s : List ℕ) {r : Row × ℕ} → row p s ≡ good r → row q s ≡ good r
+pub row-placed : (p q : ℕ) (s : List ℕ) {r : Row × ℕ} → row p s ≡ good r → row q s ≡ good r
 unfolding row
 row-placed p q s e = let (t, z) = passed _ _ _ _ e in pass _ _ _ _ t z
 
@@ -29,11 +29,11 @@ rows-placed zero p q (x ∷ s) e =
     let (l, i, m) = fronted _ _ d in
     step _ _ (row-placed p q (x ∷ s) g) (front-of _ _ (rows-placed (r .1 - 1) (suc p) (suc q) s i) ∙ ap good m)
 
-row-size : (p : ℕ) (s : List ℕ) {r : Row × ℕ} → row p s ≡ good r → r .1 ≡ 32
+pub row-size : (p : ℕ) (s : List ℕ) {r : Row × ℕ} → row p s ≡ good r → r .1 ≡ 32
 unfolding row
 row-size p s e = sym (ap (λ (x : Row × ℕ). x .1) (good-inj (passed _ _ _ _ e .1)))
 
-row-front : (p : ℕ) (u v w : List ℕ) {r : Row × ℕ} → 32 ≤ length u → row p (u ++ v) ≡ good r → row p (u ++ w) ≡ good r
+pub row-front : (p : ℕ) (u v w : List ℕ) {r : Row × ℕ} → 32 ≤ length u → row p (u ++ v) ≡ good r → row p (u ++ w) ≡ good r
 unfolding row
 row-front p u v w l e =
     let q : take 32 (u ++ w) ≡ take 32 (u ++ v) = take-append-le 32 u w l ∙ sym (take-append-le 32 u v l) in

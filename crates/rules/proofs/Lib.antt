@@ -4,6 +4,7 @@ pub mod Edges
 pub mod Outcomes
 pub mod Numbers
 pub mod Walk
+pub mod Stops
 pub mod Cut
 pub mod Gives
 pub mod Refused
@@ -23,6 +24,7 @@ pub mod Nevers
 pub mod Measured
 pub mod Interference
 pub mod Joined
+pub mod Reasons
 pub mod Turns
 pub mod Kept
 pub mod Apart

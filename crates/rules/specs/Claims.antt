@@ -6,9 +6,9 @@ use mathlib.Core.Bool.{true, false, not, _&&_, _||_}
 use mathlib.Core.List.{List, [], _∷_, _++_, map}
 use mathlib.Core.Option.{some}
 use lib.ListN.{length, getD, take, drop}
-use Rattle.rules.specs.Outcome.{good, bad, OPTION, PACKAGE, ROOM, COUNT}
+use Rattle.rules.specs.Outcome.{good, bad, OPTION, PACKAGE, ROW, LARGE, ROOM, COUNT}
 use Rattle.rules.specs.Bytes.{Bytes, word, pad, part, join}
-use Rattle.rules.specs.Items.{All, Fills, count, passing}
+use Rattle.rules.specs.Items.{items, All, Fills, count, passing}
 use Rattle.rules.specs.Options.{mostOptionBytes, optionFits, isSecond, optionRunFrom, countSaid, kindOf, WholeOption}
 use Rattle.rules.specs.Packages.{Package, packageFits, cut, packageOf, packageTime, Piece}
 use Rattle.rules.specs.Message.{headerBytes, mostNanos, mostBytes, Head, head, payloadStart, payload, isSimulated, recordBits, checksOneToNine, checksOneToTen, Message, message, recording}
@@ -18,8 +18,8 @@ use Rattle.rules.specs.Walk.{PackageSpot, packageAt, dataAt, nextAt, Wal
 use Rattle.rules.specs.Writer.{write, Draft, accepted, written, writer}
 use Rattle.rules.specs.Clean.{cleanForm, cleaner}
 use Rattle.rules.specs.Valid.{Valid, DraftFits}
-use Rattle.rules.specs.Sheet.{rowBytes, mostRows, Row, rowOf, startOf, endOf, sheet}
-use Rattle.rules.specs.Copy.{granted, Entry, grantedPackages, released, copyMessage, copyMessages, copyBytes, releasedOf, measurement, copy, delivered}
+use Rattle.rules.specs.Sheet.{rowBytes, mostRows, Row, rowOf, startOf, endOf, row, sheet}
+use Rattle.rules.specs.Copy.{granted, Entry, grantedPackages, released, copyMessage, copyMessages, copyBytes, Answer, releasedOf, measurement, copy, delivered}
 use Rattle.rules.specs.Turns.{Copied, releasedBy, Holds}
 use Rattle.rules.specs.Table.{Table}
 use Rattle.rules.specs.Edges.{Edges}
@@ -125,6 +125,42 @@ pub record PackageExactly : Type 0 where
   pub filled : (p : ℕ) (s : List ℕ) (pieces : List (List ℕ)) → (cut p s ≡ good pieces) ↔ Fills Piece pieces s
   pub place : (p : ℕ) (s : List ℕ) (n q : ℕ) → cut p s ≡ bad n q
       → (d : ℕ) × (q ≡ p + d) × (n ≡ PACKAGE) × (packageFits (drop d s) ≡ false) × ((pieces : List (List ℕ)) × Fills Piece pieces (take d s))
+
+-- Why and where a recording is refused: it is too large; or behind messages that pass, the next one does not.
+pub data BadRecording (s : List ℕ) : ℕ → ℕ → Type 0 where
+  too-large : mostBytes < length s → BadRecording s LARGE mostBytes
+  bad-message : {q n p : ℕ} {before : List Message} → length s ≤ mostBytes → items message 0 0 (take q s) ≡ good before → q < length s → message q (drop q s) ≡ bad n p → BadRecording s n p
+
+-- as many bytes as a sheet may have: whole rows, and no more than 32
+pub record SheetSize (s : List ℕ) : Type 0 where
+  pub most : length s ≤ mostRows * rowBytes
+  pub rows : length s % rowBytes ≡ 0
+
+-- Why and where a sheet is refused: its size; or behind rows that keep the rules, the next one does not.
+pub data BadSheet (s : List ℕ) : ℕ → ℕ → Type 0 where
+  bad-size : (SheetSize s → ⊥) → BadSheet s ROW (length s)
+  bad-row : (i : ℕ) {n p : ℕ} {before : List Row} → SheetSize s → items row 0 0 (take (i * rowBytes) s) ≡ good before → i * rowBytes < length s → row (i * rowBytes) (drop (i * rowBytes) s) ≡ bad n p → BadSheet s n p
+
+-- Why and where nothing is released: the sheet is refused, and then the recording.
+pub data Unreleased (recordingBytes sheetBytes : List ℕ) : ℕ → ℕ → Type 0 where
+  by-sheet : {n p : ℕ} → BadSheet sheetBytes n p → Unreleased recordingBytes sheetBytes n p
+  by-recording : {n p : ℕ} {rows : List Row} → sheet sheetBytes ≡ good rows → BadRecording recordingBytes n p → Unreleased recordingBytes sheetBytes n p
+
+-- Why and where nothing is copied: nothing is released, and then there is no room for what is.
+pub data Uncopied (recordingBytes sheetBytes buffer : List ℕ) : ℕ → ℕ → Type 0 where
+  unreleased : {n p : ℕ} → Unreleased recordingBytes sheetBytes n p → Uncopied recordingBytes sheetBytes buffer n p
+  roomless : {es : List Entry} → releasedOf recordingBytes sheetBytes ≡ good es → length buffer < length (copyBytes es) → Uncopied recordingBytes sheetBytes buffer ROOM (length (copyBytes es))
+
+-- a refusal: its number and its place, and all else zero
+abbrev pub refusalAt : ℕ → ℕ → Answer
+refusalAt n p = record { number = n; place = p; bytes = 0; messages = 0; packages = 0 }
+
+-- Recordings, sheets and copies are refused exactly so; a copy with its buffer as it was.
+pub record RefusalsExactly : Type 0 where
+  pub recording : (s : List ℕ) (n p : ℕ) → (recording s ≡ bad n p) ↔ BadRecording s n p
+  pub sheet : (s : List ℕ) (n p : ℕ) → (sheet s ≡ bad n p) ↔ BadSheet s n p
+  pub measured : (recordingBytes sheetBytes : List ℕ) (n p : ℕ) → (n ≡ 0 → ⊥) → (measurement recordingBytes sheetBytes ≡ refusalAt n p) ↔ Unreleased recordingBytes sheetBytes n p
+  pub copied : (recordingBytes sheetBytes buffer : List ℕ) (n p : ℕ) → (n ≡ 0 → ⊥) → (copy recordingBytes sheetBytes buffer ≡ (refusalAt n p, buffer)) ↔ Uncopied recordingBytes sheetBytes buffer n p
 
 -- P holds of some element
 pub data Some {A : Type 0} (P : A → Type 0) : List A → Type 0 where
@@ -305,7 +341,7 @@ OneOutcome = (A B : Type 0) (told : A → B) → TellsApart told → (d : B) (a 
 pub record Claims : Type 1 where
   pub buffers : BuffersKept
   pub premises : PremisesMet × AcceptedValid × ReadValid
-  pub reading : SpotOfRecord × SpotExactly × CountsChecked × OptionsExactly × CountExactly × PackageExactly × WalkExactly
+  pub reading : SpotOfRecord × SpotExactly × CountsChecked × RefusalsExactly × OptionsExactly × CountExactly × PackageExactly × WalkExactly
   pub writing : WrittenRead × ReadWritten × PartsWritten × WriterWrites
   pub cleaning : CleanerWrites × CleanAlone × CleanTwice × CleanExactly
   pub measuring : (recording sheet : List ℕ) → MeasuredFirst recording sheet
