@@ -2,6 +2,7 @@
 use Prim.Native.Nat.{ℕ, zero, suc, _+_, _-_, _%_, _^_, _≤_, _<_}
 use mathlib.Core.Path.{_≡_, refl, ap, sym, _∙_}
 use mathlib.Core.Bool.{Bool, true, false}
+use mathlib.Core.Logic.{_↔_}
 use mathlib.Core.List.{List, [], _∷_, map}
 use native.Mathlib.Omega.{arith}
 use borrow.Author.Tests.{ltb-false, le-ltb}
@@ -50,6 +51,16 @@ all-taken (suc q) zero p (x ∷ s) l = go (message p (x ∷ s)) (λ k. all-taken
         ≡ (o >>= (λ (r : Message × ℕ). r .0 ∷> items message (r .1 - 1) (suc p) s))
     go (good r) h = on-front (record { message = r .0; place = p; size = r .1 }) _ _ (h (r .1 - 1))
     go (bad n j) h = refl
+
+on-bad : (o : Outcome (List Taken)) {n p : ℕ} → onMessages o ≡ bad n p → o ≡ bad n p
+unfolding onMessages
+on-bad (good ts) e = absurd (good≢bad (sym e))
+on-bad (bad n p) e = cc
+
+-- and is refused as all are
+pub all-refused : (q : ℕ) (s : List ℕ) {n p : ℕ} → length s ≤ q → (takenFrom s q ≡ bad n p) ↔ (items message 0 0 s ≡ bad n p)
+unfolding takenFrom onMessages
+all-refused q s l = (λ e. sym (all-taken q 0 0 s l) ∙ ap onMessages e, λ e. on-bad _ (all-taken q 0 0 s l ∙ e))
 
 -- ---- the numbers count the earlier entries
 
@@ -115,10 +126,6 @@ module _ (most : ℕ) (input sheetBytes : List ℕ) (quota : ℕ) (state : State
         let f = few-released rows input quota (ltb-false 65536 (length input) small) t in
         ap (λ (ns : List Running). numberedBytes ns (released rows (map messageOf ts))) (no-numbers state none) ∙ bytes-copied (released rows (map messageOf ts)) (omega arith)
 
-  all-bad : (n p : ℕ) → takenFrom input quota ≡ bad n p → items message 0 0 input ≡ bad n p
-  unfolding takenFrom onMessages
-  all-bad n p t = sym (all-taken quota 0 0 input above) ∙ ap onMessages t
-
   module _ (fit : (rows : List Row) (ts : List Taken) (p : ℕ) → sheet sheetBytes ≡ good rows → ltb 65536 (length input) ≡ false → takenFrom input quota ≡ good ts → idsFit most rows (runningIn state) ts ≡ bad IDS p → ⊥) where
     -- sheet and size pass
     module _ (rows : List Row) (v : sheet sheetBytes ≡ good rows) (small : ltb 65536 (length input) ≡ false) where
@@ -153,7 +160,7 @@ module _ (most : ℕ) (input sheetBytes : List ℕ) (quota : ℕ) (state : State
       with-messages (bad n p) t =
           same-refused n p
           (pass _ _ _ _ good-none (step _ _ v (pass _ _ _ _ small (stop _ _ t))))
-          (stop _ _ (step _ _ v (stop _ _ (pass _ _ _ _ small (all-bad n p t)))))
+          (stop _ _ (step _ _ v (stop _ _ (pass _ _ _ _ small (all-refused quota input above .0 t)))))
 
     with-size : (rows : List Row) → sheet sheetBytes ≡ good rows → (b : Bool) → ltb 65536 (length input) ≡ b → asCopy (numberedCopy most input sheetBytes quota state buffer) ≡ copy input sheetBytes buffer
     unfolding delivering releasedOf recording
@@ -195,7 +202,7 @@ module _ (most : ℕ) (input sheetBytes : List ℕ) (quota : ℕ) (state : State
           ap (λ (x : Outcome (List Taken × List Entry)). copyOf (reported state buffer x .0)) (step _ _ v (pass _ _ _ _ small (step _ _ t refl)))
           ∙ ap (λ (s : List ℕ). record { number = 0; place = 0; bytes = length s; messages = length (released rows (map messageOf ts)); packages = packagesIn (released rows (map messageOf ts)) }) (bytes-are rows v small ts t)
           ∙ sym (ap rules.reported (list-is rows v small ts t))
-      with-taken rows v small (bad n p) t = alike _ _ n p (step _ _ v (pass _ _ _ _ small (stop _ _ t))) (step _ _ v (stop _ _ (pass _ _ _ _ small (all-bad n p t))))
+      with-taken rows v small (bad n p) t = alike _ _ n p (step _ _ v (pass _ _ _ _ small (stop _ _ t))) (step _ _ v (stop _ _ (pass _ _ _ _ small (all-refused quota input above .0 t))))
 
       with-large : (rows : List Row) → sheet sheetBytes ≡ good rows → (b : Bool) → ltb 65536 (length input) ≡ b → copyOf (reported state buffer (measuring input sheetBytes quota) .0) ≡ measurement input sheetBytes
       with-large rows v false l = with-taken rows v l (takenFrom input quota) refl

@@ -6,6 +6,7 @@ pub mod Messages
 pub mod Marks
 pub mod Ids
 pub mod First
+pub mod Stops
 pub mod Stores
 pub mod Found
 pub mod Packages

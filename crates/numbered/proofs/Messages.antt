@@ -3,15 +3,17 @@ use Prim.Native.Nat.{ℕ, zero, suc, _+_, _-_, _*_, _≤_, _<_}
 use mathlib.Core.Path.{_≡_, refl, ap, sym, subst, _∙_}
 use mathlib.Core.List.{List, [], _∷_, _++_, map, append-assoc}
 use native.Mathlib.Omega.{arith}
+use borrow.Author.Tests.{le-ltb}
 use lib.ListN.{length, take, drop, length-append, length-drop, length-take, take-append-drop, length-map}
-use lib.Seq.{take-add, drop-at, drop-nil, length-take-le}
-use Rattle.rules.specs.Outcome.{good}
+use lib.Seq.{take-add, take-take, drop-at, drop-nil, length-take-le}
+use Rattle.rules.specs.Outcome.{good, LARGE}
 use Rattle.rules.specs.Items.{items}
 use Rattle.rules.specs.Packages.{Package, packageOf}
 use Rattle.rules.specs.Sheet.{Row}
 use Rattle.rules.specs.Copy.{Entry, grantedPackages, withEntryOf, released}
-use Rattle.rules.specs.Message.{head, payloadStart, payload, Message, recordOf, message}
-use Rattle.rules.proofs.Outcomes.{step, stepped, fronted, front-of, good-inj}
+use Rattle.rules.specs.Message.{head, payloadStart, payload, Message, recordOf, message, recording}
+use Rattle.rules.proofs.Outcomes.{pass, step, stepped, fronted, front-of, good-inj}
+use Rattle.rules.proofs.Gives.{Gives, gives-items, gives-message}
 use Rattle.rules.proofs.Walk.{items-next}
 use Rattle.rules.proofs.Alone.{own}
 use Rattle.rules.proofs.Cut as Cut
@@ -26,6 +28,12 @@ own-here p q s t m n e =
     let a : message q (take n s ++ (drop n s ++ t)) ≡ good (m, n) = own p s m n e .again q (drop n s ++ t) in
     let z : take n s ++ (drop n s ++ t) ≡ s ++ t = sym (append-assoc (take n s) (drop n s) t) ∙ ap (λ (u : List ℕ). u ++ t) (take-append-drop n s) in
     ap (message q) (sym z) ∙ a
+
+-- and with nothing but the bytes up to e behind it
+pub own-front : (p q e : ℕ) (s : List ℕ) (m : Message) (n : ℕ) → n ≤ e → message p s ≡ good (m, n) → message q (take e s) ≡ good (m, n)
+own-front p q e s m n l g =
+    let z : take n s ++ drop n (take e s) ≡ take e s = ap (λ (u : List ℕ). u ++ drop n (take e s)) (sym (take-take n e s l)) ∙ take-append-drop n (take e s) in
+    ap (message q) (sym z) ∙ own p s m n g .again q (drop n (take e s))
 
 own-moved : (p q : ℕ) (s : List ℕ) (m : Message) (n : ℕ) → message p s ≡ good (m, n) → message q s ≡ good (m, n)
 own-moved p q s m n e = ap (message q) (sym (take-append-drop n s)) ∙ own p s m n e .again q (drop n s)
@@ -54,6 +62,20 @@ messages-append zero p q (x ∷ a) b {ms} {ns} h e f =
     let o = own p (x ∷ a) (r .0) (r .1) g in
     let c : r .1 - 1 ≤ length a = omega (arith, o .most, o .least) in
     step _ _ (own-here p p (x ∷ a) b (r .0) (r .1) g) (front-of _ _ (messages-append (r .1 - 1) (suc p) q a b c i f) ∙ ap (λ (u : List Message). good (u ++ ns)) m)
+
+-- ---- LARGE
+
+-- a recording that is not longer than an input may be is its messages
+pub small-recording : (s : List ℕ) → length s ≤ 65536 → recording s ≡ items message 0 0 s
+unfolding recording
+small-recording s l = pass _ _ _ _ (le-ltb 65536 (length s) l) refl
+
+abbrev pub NotLarge : ℕ → ℕ → Type 0
+NotLarge n p = n ≡ LARGE → ⊥
+
+-- LARGE is no refusal of a message
+pub never-large : (s : List ℕ) → Gives NotLarge (items message 0 0 s)
+never-large s = gives-items message (λ p. gives-message p (λ n l m e. omega arith) (λ q e. omega arith) (λ q e. omega arith) (λ e. omega arith)) 0 0 s
 
 -- ---- the first messages, up to a quota
 

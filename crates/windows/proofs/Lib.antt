@@ -1,5 +1,4 @@
 -- The laws of windows, and the proofs of the claims.
-pub mod Stops
 pub mod Windows
 pub mod Worked
 pub mod Lengths

@@ -3,27 +3,26 @@ use Prim.Native.Nat.{ℕ, _+_, _≤_, _<_}
 use mathlib.Core.Path.{_≡_, refl, ap, sym, subst, _∙_}
 use mathlib.Core.Bool.{Bool, true, false, _&&_}
 use mathlib.Core.Logic.{_⊎_, inl, inr, ⊎-elim}
-use mathlib.Core.List.{List, [], _++_, append-assoc, append-nil}
+use mathlib.Core.List.{List, [], _++_, map, append-assoc, append-nil}
 use native.Mathlib.Omega.{arith}
 use native.Mathlib.Nat.{pos-of-ne-zero}
-use borrow.Author.Tests.{ltb-true, ltb-false, le-ltb, leb-true, le-leb, eqb-true, eq-eqb}
+use borrow.Author.Tests.{ltb-true, ltb-false, leb-true, le-leb, eqb-true, eq-eqb}
 use lib.Dec.{ltb, leb, eqb}
-use lib.ListN.{length, take, drop, length-append, length-drop, take-append-drop}
-use lib.Seq.{take-all, length-take-le, take-append-le}
-use Rattle.rules.specs.Outcome.{Outcome, good, bad, refuse, SHORT, CUT, LARGE}
+use lib.ListN.{length, take, drop, length-append, take-append-drop}
+use lib.Seq.{take-all, take-append-seam, take-append-le, drop-append-le}
+use Rattle.rules.specs.Outcome.{Outcome, good, bad, SHORT, CUT, LARGE}
 use Rattle.rules.specs.Bytes.{join}
 use Rattle.rules.specs.Items.{items}
 use Rattle.rules.specs.Message.{Message, message, recording}
-use Rattle.rules.proofs.Outcomes.{pass, halt, passed, refused-pass, bad-inj, good-inj, good≢bad, both}
-use Rattle.rules.proofs.Alone.{own}
-use Rattle.rules.proofs.Gives.{Gives, gives-items, gives-message, cut-place}
+use Rattle.rules.proofs.Outcomes.{halt, passed, refused-pass, bad-inj, good-inj, good≢bad, both}
+use Rattle.rules.proofs.Gives.{cut-place}
 use Rattle.rules.proofs.Walk.{items-stop}
 use Rattle.rules.proofs.Final.{final}
-use Rattle.numbered.proofs.Messages.{messages-append}
+use Rattle.numbered.specs.Quota.{messageOf}
+use Rattle.numbered.proofs.Messages.{own-front, messages-append, small-recording, never-large}
+use Rattle.numbered.proofs.Stops.{stopped-all, refused-behind, refused-joined}
 use Rattle.windows.specs.Window.{isCut, endingBefore, handedBy, handedOver}
 use Rattle.windows.specs.Claims.{HandedOver, FirstCut, Windows, last, next}
-use Rattle.rules.proofs.Shifted.{refused-further}
-use Rattle.windows.proofs.Stops.{stopped, refused-behind}
 
 -- ---- numbers that say that a message's end is not there
 
@@ -46,20 +45,6 @@ not-cut n e = (λ z. no (is-cut n (inl z)), λ z. no (is-cut n (inr z)))
 
 -- ---- the reading of a window
 
-small-recording : (window : List ℕ) → length window ≤ 65536 → recording window ≡ items message 0 0 window
-unfolding recording
-small-recording window l = pass _ _ _ _ (le-ltb 65536 (length window) l) refl
-
--- LARGE is no refusal of a message
-abbrev NotLarge : ℕ → ℕ → Type 0
-NotLarge n p = n ≡ LARGE → ⊥
-
-never-large : (p : ℕ) (s : List ℕ) → Gives NotLarge (message p s)
-never-large p s = gives-message p (λ n l m e. omega arith) (λ q e. omega arith) (λ q e. omega arith) (λ e. omega arith) s
-
-items-never-large : (window : List ℕ) (p : ℕ) → items message 0 0 window ≡ bad LARGE p → ⊥
-items-never-large window p e = gives-items message never-large 0 0 window .given LARGE p e refl
-
 -- a window that is refused with another number is refused at a message
 refused-message : (window : List ℕ) (n p : ℕ) → (n ≡ LARGE → ⊥) → recording window ≡ bad n p → items message 0 0 window ≡ bad n p
 unfolding recording
@@ -80,14 +65,13 @@ pub record CutWindow (window : List ℕ) (n p : ℕ) : Type 0 where
 cut-window : (window : List ℕ) (n p : ℕ) → isCut n ≡ true → recording window ≡ bad n p → CutWindow window n p
 cut-window window n p c e =
     let k = cut-is n c in
-    let w = stopped 0 0 window (refused-message window n p (λ z. ⊎-elim (λ a. omega (arith, a, z)) (λ a. omega (arith, a, z)) k) e) in
-    let z : 0 + w .d ≡ p = omega (arith, cut-place _ _ n p (w .refused) k) in
-    let y : 0 + (0 + w .d) ≡ p = omega (arith, z) in
+    let w = stopped-all window (refused-message window n p (λ z. ⊎-elim (λ a. omega (arith, a, z)) (λ a. omega (arith, a, z)) k) e) in
+    let z = cut-place _ _ n p (w .refused) k in
     record {
       inside = omega (arith, w .inside, z);
-      messages = w .messages;
-      read = ap (λ (j : ℕ). items message 0 0 (take j window)) (sym z) ∙ w .read;
-      refused = ap (λ (j : ℕ). message j (drop p window)) (sym y) ∙ ap (λ (j : ℕ). message (0 + (0 + w .d)) (drop j window)) (sym z) ∙ w .refused;
+      messages = map messageOf (w .ts);
+      read = ap (λ (j : ℕ). items message 0 0 (take j window)) z ∙ w .read;
+      refused = ap (λ (j : ℕ). message j (drop j window)) z ∙ w .refused;
     }
 
 -- by its number
@@ -179,17 +163,12 @@ still-refused true s behind d n p t h e = let (a, b) = not-cut n t in final d s 
 whole-refused : (before window behind : List ℕ) (goesOn : Bool) (ms : List Message) (n p : ℕ) → items message 0 0 before ≡ good ms → (goesOn ≡ false → behind ≡ [])
     → (goesOn && isCut n) ≡ false → items message 0 0 window ≡ bad n p → items message 0 0 (before ++ window ++ behind) ≡ bad n (length before + p)
 whole-refused before window behind goesOn ms n p b h t e =
-    let w = stopped 0 0 window e in
-    let d : ℕ = 0 + w .d in
-    let front : List ℕ = before ++ take d window in
-    let rest : List ℕ = drop d window ++ behind in
-    let there : message (length before + (0 + d)) rest ≡ bad n (length before + p) = refused-further (length before) (0 + d) rest (still-refused goesOn (drop d window) behind (0 + d) n p t h (w .refused)) in
-    let long : length front ≡ length before + d = length-append before (take d window) ∙ ap (λ (k : ℕ). length before + k) (length-take-le d window (omega (arith, w .inside))) in
-    let at : 0 + length front ≡ length before + (0 + d) = omega (arith, long) in
-    let parts : before ++ window ++ behind ≡ front ++ rest =
-    ap (λ (l : List ℕ). before ++ l ++ behind) (sym (take-append-drop d window)) ∙ append-assoc before (take d window ++ drop d window) behind ∙ ap (λ (l : List ℕ). before ++ l) (append-assoc (take d window) (drop d window) behind) ∙ sym (append-assoc before (take d window) rest) in
-    ap (items message 0 0) parts
-    ∙ refused-behind 0 0 front rest (omega arith) (omega (arith, length-append (drop d window) behind, length-drop d window, w .inside)) (messages-append 0 0 0 before (take d window) (omega arith) b (w .read)) (ap (λ (k : ℕ). message k rest) at ∙ there)
+    let w = stopped-all window e in
+    let l : w .place ≤ length window = omega (arith, w .inside) in
+    ap (items message 0 0) (append-assoc before window behind)
+    ∙ refused-joined before (window ++ behind) b
+    (refused-behind (window ++ behind) (w .place) (omega (arith, length-append window behind, w .inside)) (ap (items message 0 0) (take-append-le (w .place) window behind l) ∙ w .read)
+    (ap (message (w .place)) (drop-append-le (w .place) window behind l) ∙ still-refused goesOn (drop (w .place) window) behind (w .place) n p t h (w .refused)))
 
 pub refused-as-whole : (before window behind : List ℕ) (goesOn : Bool) (ms : List Message) (n p : ℕ) → items message 0 0 before ≡ good ms → (goesOn ≡ false → behind ≡ [])
     → length window ≤ 65536 → handedOver goesOn window ≡ bad n p → (n ≡ LARGE → ⊥) → items message 0 0 (before ++ window ++ behind) ≡ bad n (length before + p)
@@ -206,7 +185,7 @@ large-only goesOn window p l e = go (refused-window goesOn window LARGE p e)
   where
     go : Refused goesOn window LARGE p → FirstCut goesOn window × (p ≡ 0)
     go (large k g c r s a z) = (record { goes-on = g; full = omega (arith, l, s); cut = cut-both k 0 _ c (cut-window window k 0 c r .refused) }, z)
-    go (final-there t r) = absurd (items-never-large window p (sym (small-recording window l) ∙ r))
+    go (final-there t r) = absurd (never-large window .given LARGE p (sym (small-recording window l) ∙ r) refl)
 
 cut-handed : (window : List ℕ) (k : ℕ) → length window ≡ 65536 → isCut k ≡ true → message 0 window ≡ bad k 0 → handedOver true window ≡ bad LARGE 0
 unfolding handedOver handedBy endingBefore
@@ -219,10 +198,7 @@ large-always goesOn window f = ap (λ (b : Bool). handedOver b window) (f .goes-
 
 -- a message within the window would be read there
 within-read : (window behind : List ℕ) (p : ℕ) (m : Message) (n : ℕ) → n ≤ length window → message p (window ++ behind) ≡ good (m, n) → message 0 window ≡ good (m, n)
-within-read window behind p m n l e =
-    let o = own p (window ++ behind) m n e in
-    let z : take n (window ++ behind) ++ drop n window ≡ window = ap (λ (s : List ℕ). s ++ drop n window) (take-append-le n window behind l) ∙ take-append-drop n window in
-    ap (message 0) (sym z) ∙ o .again 0 (drop n window)
+within-read window behind p m n l e = ap (message 0) (sym (take-append-seam window behind)) ∙ own-front p 0 (length window) (window ++ behind) m n l e
 
 pub large-longer : (goesOn : Bool) (window behind : List ℕ) (p : ℕ) (m : Message) (n : ℕ) → FirstCut goesOn window → message p (window ++ behind) ≡ good (m, n) → 65536 < n
 large-longer goesOn window behind p m n f e = go (ltb 65536 n) refl
