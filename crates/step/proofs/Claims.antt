@@ -14,7 +14,8 @@ use Rattle.numbered.specs.Numbering.{Running, numbersAfter, numberedMessages, n
 use Rattle.numbered.specs.Quota.{delivering, Report, numberedCopy}
 use Rattle.numbered.proofs.Numbers.{next-after, after-append, numbered-append, numbered-injective}
 use Rattle.numbered.proofs.First.{bytes-copied, no-numbers, first-copies}
-use Rattle.step.specs.Claims.{releasedOfAny, StepKeeps, StepHandles, StepNotLonger, QuotaZero, NumbersTrue, SequenceCountedOn, StepIds, StepRoom, StepDone, StepRefuses, QuotaRefuses, FirstStepCopies, MeasuredStep, RunPasses, RunCopies, RunAsOne, RunRead, FirstRunCopies, SameOutputs, DifferentOutputs, WindowCut, RefusalFinal}
+use Rattle.step.specs.Claims.{releasedOfAny, ReleasedAtAnyLength, StepKeeps, StepHandles, StepNotLonger, QuotaZero, NumbersTrue, SequenceCountedOn, StepIds, StepRoom, StepDone, StepRefuses, QuotaRefuses, FirstStepCopies, MeasuredStep, RunPasses, RunCopies, RunAsOne, RunRead, FirstRunCopies, SameOutputs, DifferentOutputs, WindowCut, RefusalFinal}
+use Rattle.step.proofs.Released.{at-any-length}
 use Rattle.step.proofs.States.{running-low}
 use Rattle.step.proofs.Steps.{done, nothing-else, unused-reported, careful-reported, handles}
 use Rattle.step.proofs.Ids.{ids-exactly, room-refused, room-enough, none-taken}
@@ -25,6 +26,9 @@ use Rattle.step.proofs.Refusals.{refuses, within-quota, of-quota}
 use Rattle.rules.proofs.Final.{final}
 use Rattle.step.specs.Table.{Table}
 use Rattle.step.proofs.Table.{table}
+
+pub released-at-any-length : (recordingBytes sheetBytes : List ℕ) → ReleasedAtAnyLength recordingBytes sheetBytes
+released-at-any-length = at-any-length
 
 pub step-keeps : StepKeeps
 unfolding numberedCopy

@@ -1,4 +1,5 @@
 -- The laws of the steps and the proofs of the claims.
+pub mod Released
 pub mod States
 pub mod Ids
 pub mod Steps

@@ -11,7 +11,7 @@ use Rattle.rules.specs.Bytes.{Bytes}
 use Rattle.rules.specs.Items.{items, count}
 use Rattle.rules.specs.Message.{mostBytes, Message, message}
 use Rattle.rules.specs.Sheet.{Row, sheet}
-use Rattle.rules.specs.Copy.{Entry, released, copyMessage, copyBytes, packagesIn, copy}
+use Rattle.rules.specs.Copy.{Entry, released, copyMessage, copyBytes, packagesIn, releasedOf, copy}
 use Rattle.rules.specs.Claims.{Careful}
 use Rattle.numbered.specs.Numbering.{Running, nextNumber, numbersAfter, numberedMessages, numberedBytes, State, runningIn}
 use Rattle.numbered.specs.Quota.{mostIds, badState, Taken, takenFrom, messageOf, bytesTaken, Report, asCopy}
@@ -29,6 +29,18 @@ releasedOfAny recordingBytes sheetBytes = do
   rows ← sheet sheetBytes
   ms ← items message zero zero recordingBytes
   good (released rows ms)
+
+-- Of a recording that is not longer than an input may be it is document 01's, refusals included. At any length it is another only where document 01
+-- refuses the recording as LARGE, and is itself never refused so. Behind a recording that passes, another one adds its list, or gives its refusal with
+-- the place counted on.
+pub record ReleasedAtAnyLength (recordingBytes sheetBytes : List ℕ) : Type 0 where
+  pub within : length recordingBytes ≤ mostBytes → releasedOfAny recordingBytes sheetBytes ≡ releasedOf recordingBytes sheetBytes
+  pub unless-large : (releasedOf recordingBytes sheetBytes ≡ bad LARGE mostBytes → ⊥) → releasedOfAny recordingBytes sheetBytes ≡ releasedOf recordingBytes sheetBytes
+  pub never-large : (p : ℕ) → releasedOfAny recordingBytes sheetBytes ≡ bad LARGE p → ⊥
+  pub joined : (behind : List ℕ) (es more : List Entry) → releasedOfAny recordingBytes sheetBytes ≡ good es → releasedOfAny behind sheetBytes ≡ good more
+      → releasedOfAny (recordingBytes ++ behind) sheetBytes ≡ good (es ++ more)
+  pub joined-refused : (behind : List ℕ) (es : List Entry) (n p : ℕ) → releasedOfAny recordingBytes sheetBytes ≡ good es → releasedOfAny behind sheetBytes ≡ bad n p
+      → releasedOfAny (recordingBytes ++ behind) sheetBytes ≡ bad n (length recordingBytes + p)
 
 -- what a report with nothing but a number and a place says
 abbrev pub nothing : ℕ → ℕ → Report
