@@ -15,23 +15,23 @@ use Rattle.rules.specs.Clean.{cleanForm, cleaner}
 use Rattle.rules.specs.Sheet.{Row}
 use Rattle.rules.specs.Copy.{Entry, packagesIn, Answer, releasedOf, reported, measurement, roomFor, answered, copy}
 use Rattle.rules.specs.Burst.{randomized, opening, randomizer, opener}
-use Rattle.rules.specs.Claims.{BuffersKept, PremisesMet, CountsChecked, OptionsExactly, CountExactly, WrittenRead, AcceptedValid, ReadValid, ReadWritten, PartsWritten, Writes, WholeRun, WriterWrites, CleanerWrites, SpotOfRecord, SpotExactly, RefusalsExactly, CleanAlone, CleanTwice, CleanExactly, PackageExactly, WalkExactly, GrantedExactly, WindowsExactly, AcquiredOnly, RandomizerExactly, BurstExactly, SameCopies, DifferentCopies, CopyExactly, MeasuredFirst, SequenceCounted, ReleasedExactly, CopyPlain, TwoSheets, RowAdded, OneOutcome, Claims, partsOf}
+use Rattle.rules.specs.Claims.{BuffersKept, PremisesMet, CountsChecked, OptionsExactly, CountExactly, WrittenRead, AcceptedValid, ReadValid, ReadWritten, PartsWritten, Writes, WholeRun, WriterWrites, WriterRefuses, CleanerWrites, CleanerRefuses, SpotOfRecord, SpotExactly, HeaderRefused, RefusalsExactly, CleanAlone, CleanTwice, CleanExactly, PackageExactly, WalkExactly, RowExactly, GrantedExactly, WindowsExactly, AcquiredOnly, RandomizerExactly, BurstExactly, OpeningRefused, SameCopies, DifferentCopies, CopyExactly, MeasuredFirst, SequenceCounted, ReleasedExactly, CopyPlain, TwoSheets, RowAdded, OneOutcome, Claims, partsOf}
 use Rattle.rules.proofs.Outcomes.{pass, passed, step, stepped, came-after, good-inj}
-use Rattle.rules.proofs.Reasons.{recording-refused, sheet-refused, measure-refused, copy-refused}
+use Rattle.rules.proofs.Reasons.{recording-refused, check-refused, header-refused, cleaning-refused, writing-refused, sheet-refused, rows-refused, release-refused, measure-refused, copy-refused}
 use Rattle.rules.proofs.Kept.{careful-stored, careful-answered, kept-randomized, kept-opened, writes, roomless}
 use Rattle.rules.proofs.Cut as Cut
 use Rattle.rules.proofs.Passed.{sound, passes}
 use Rattle.rules.proofs.Alone as Alone
 use Rattle.rules.proofs.RoundTrip as RoundTrip
-use Rattle.rules.proofs.Writer.{accepts, accepted-valid, parts, parts-written, count-written}
+use Rattle.rules.proofs.Writer.{accepts, accepted-valid, parts, parts-written, draft-refused, count-written}
 use Rattle.rules.proofs.Refused.{exactly, count-read, count-right}
 use Rattle.rules.proofs.Wholes.{whole-run-by, option-stopped, fault-at, said-by}
 use Rattle.rules.proofs.Valids.{run-again}
-use Rattle.rules.proofs.Walks.{walks-cut, stays}
+use Rattle.rules.proofs.Walks.{walks-cut, stays, walk-large, ended, walk-refused}
 use Rattle.rules.proofs.Granted as Granted
 use Rattle.rules.proofs.Acquired as Acquired
 use Rattle.rules.proofs.Sequence as Sequence
-use Rattle.rules.proofs.Bursts.{randomizer-is, burst-exactly}
+use Rattle.rules.proofs.Bursts.{randomizer-is, burst-exactly, burst-refused}
 use Rattle.rules.specs.Table.{Table}
 use Rattle.rules.proofs.Table.{table}
 use Rattle.rules.specs.Edges.{Edges}
@@ -108,6 +108,9 @@ pub writer-writes : WriterWrites
 unfolding writer
 writer-writes d c e = stores c (written d) e
 
+pub writer-refuses : WriterRefuses
+writer-refuses = record { drafts = draft-refused; writer = writing-refused }
+
 pub cleaner-writes : CleanerWrites
 unfolding cleaner
 cleaner-writes s c h e = stores c (notLarge s >> cleanForm s) (pass _ _ _ _ (le-ltb 65536 (length s) h) e)
@@ -117,6 +120,12 @@ spot-of-record = of-record
 
 pub spot-exactly : SpotExactly
 spot-exactly = record { told = spot-read; refused = spot-refused }
+
+pub cleaner-refuses : CleanerRefuses
+cleaner-refuses = cleaning-refused
+
+pub header-is-refused : HeaderRefused
+header-is-refused = header-refused
 
 pub clean-alone : CleanAlone
 clean-alone = Alone.clean-alone
@@ -156,7 +165,10 @@ pub count-exactly : CountExactly
 count-exactly = record { right = count-right; read = count-read; written = count-written }
 
 pub walk-exactly : WalkExactly
-walk-exactly = record { shows = walks-cut; stays = stays }
+walk-exactly = record { shows = walks-cut; stays = stays; large = walk-large; ended = λ s i l. ended s l i; refused = λ s i n p l. walk-refused s l i n p }
+
+pub row-exactly : RowExactly
+row-exactly = Granted.row-exactly
 
 pub granted-by-ranges : GrantedExactly
 granted-by-ranges rows m k = Granted.granted-exactly m k rows
@@ -188,6 +200,9 @@ randomizer-exactly = record {
 
 pub burst-is : BurstExactly
 burst-is = burst-exactly
+
+pub opening-refused : OpeningRefused
+opening-refused = burst-refused
 
 pub table-holds : Table
 table-holds = table
@@ -238,7 +253,15 @@ unfolding checkedRecording
 counts-checked s ms e = step _ _ e (rw (← messages-joined ms))
 
 pub refusals-exactly : RefusalsExactly
-refusals-exactly = record { recording = recording-refused; sheet = sheet-refused; measured = measure-refused; copied = copy-refused }
+refusals-exactly = record {
+  recording = recording-refused;
+  checked = check-refused;
+  sheet = sheet-refused;
+  rows = rows-refused;
+  released = release-refused;
+  measured = measure-refused;
+  copied = copy-refused;
+}
 
 pub sequence-counted : SequenceCounted
 sequence-counted = copyMessages-snoc
@@ -275,13 +298,13 @@ pub all-claims : Claims
 all-claims = record {
   buffers = buffers-kept;
   premises = (premises-met, accepted-is-valid, read-valid);
-  reading = (spot-of-record, spot-exactly, counts-checked, refusals-exactly, options-exactly, count-exactly, package-exactly, walk-exactly);
-  writing = (written-read, read-written, parts-give-clean, writer-writes);
-  cleaning = (cleaner-writes, clean-alone, clean-twice, clean-exactly);
+  reading = (spot-of-record, spot-exactly, header-is-refused, counts-checked, refusals-exactly, options-exactly, count-exactly, package-exactly, walk-exactly);
+  writing = (written-read, read-written, parts-give-clean, writer-writes, writer-refuses);
+  cleaning = (cleaner-writes, cleaner-refuses, clean-alone, clean-twice, clean-exactly);
   measuring = measured-first;
-  granting = (granted-by-ranges, windows-exactly, acquired-only, released-exactly);
+  granting = (row-exactly, granted-by-ranges, windows-exactly, acquired-only, released-exactly);
   copying = (copy-exactly, sequence-counted, copy-is-plain, two-sheets, row-added);
-  bursts = (randomizer-exactly, burst-is);
+  bursts = (randomizer-exactly, burst-is, opening-refused);
   silence = (same-copies, different-copies);
   outcomes = one-outcome;
   numbers = (table-holds, edges-hold);

@@ -6,7 +6,7 @@ use mathlib.Core.Bool.{Bool, true, false, not}
 use mathlib.Core.List.{List, [], _∷_}
 use native.Mathlib.Omega.{arith}
 use lib.Dec.{eqb}
-use Rattle.rules.specs.Outcome.{Outcome, good, bad, refuse, _>>_, _>>=_, _∷>_, SHORT, CUT, OPTION, PACKAGE, ROW, COUNT}
+use Rattle.rules.specs.Outcome.{Outcome, good, bad, refuse, _>>_, _>>=_, _∷>_, SHORT, CUT, OPTION, FRAGMENT, STANDARD, PACKAGE, ROW, COUNT}
 use Rattle.rules.specs.Items.{items}
 use Rattle.rules.specs.Options.{optionFits, optionSize, isSecond, optionRunFrom}
 use Rattle.rules.specs.Packages.{piece, cut}
@@ -81,7 +81,8 @@ module _ {P : ℕ → ℕ → Type 0} (bad-package : (q : ℕ) → P PACKAGE q) 
 
 -- ---- a message at place p, which gives its other numbers there
 
-module _ {P : ℕ → ℕ → Type 0} (p : ℕ) (own : (n : ℕ) → 1 ≤ n → n ≤ 9 → P n p) where
+-- what its header gives, by checks 1 to 7
+module _ {P : ℕ → ℕ → Type 0} (p : ℕ) (own : (n : ℕ) → 1 ≤ n → n ≤ 6 → P n p) (option : (q : ℕ) → P OPTION q) where
   gives-six : (s : List ℕ) (h : Head) → Gives P (checksOneToSix p s h)
   unfolding checksOneToSix
   gives-six s h =
@@ -91,18 +92,33 @@ module _ {P : ℕ → ℕ → Type 0} (p : ℕ) (own : (n : ℕ) → 1 ≤ n →
       (gives-check _ _ _ (own _ (omega arith) (omega arith))
       (gives-check _ _ _ (own _ (omega arith) (omega arith)) (gives-refuse _ _ _ (own _ (omega arith) (omega arith)))))))
 
-  module _ (option : (q : ℕ) → P OPTION q) (bad-package : (q : ℕ) → P PACKAGE q) where
-    pub gives-ten : (s : List ℕ) (h : Head) → Gives P (checksOneToTen p s h)
-    unfolding checksOneToTen checksOneToNine checksEightAndNine optionRunLength
-    gives-ten s h =
-        gives-step
-        (gives-step (gives-after (gives-six s h) (gives-run option _ _ _ _ _))
-        (λ n. gives-after (gives-check _ _ _ (own _ (omega arith) (omega arith)) (gives-refuse _ _ _ (own _ (omega arith) (omega arith)))) gives-good))
-        (λ n. gives-step (gives-cut bad-package _ _) (λ cs. gives-good))
+  gives-seven : (s : List ℕ) (h : Head) → Gives P (optionRunLength p s h)
+  unfolding optionRunLength
+  gives-seven s h = gives-after (gives-six s h) (gives-run option _ _ _ _ _)
 
-    pub gives-message : P COUNT p → (s : List ℕ) → Gives P (message p s)
-    unfolding message everyCheck
-    gives-message count s = gives-step (gives-step (gives-ten s (head s)) (λ r. gives-check _ _ _ count gives-good)) (λ r. gives-good)
+-- what the whole message gives, if its header's refusals keep P
+module _ {P : ℕ → ℕ → Type 0} (p : ℕ) (fragment : P FRAGMENT p) (standard : P STANDARD p) (bad-package : (q : ℕ) → P PACKAGE q) where
+  gives-behind : (s : List ℕ) (h : Head) → Gives P (optionRunLength p s h) → Gives P (checksOneToTen p s h)
+  unfolding checksOneToTen checksOneToNine checksEightAndNine
+  gives-behind s h v =
+      gives-step
+      (gives-step v (λ n. gives-after (gives-check _ _ _ fragment (gives-refuse _ _ _ standard)) gives-good))
+      (λ n. gives-step (gives-cut bad-package _ _) (λ cs. gives-good))
+
+  gives-whole : P COUNT p → (s : List ℕ) → Gives P (optionRunLength p s (head s)) → Gives P (message p s)
+  unfolding message everyCheck
+  gives-whole count s v = gives-step (gives-step (gives-behind s (head s) v) (λ r. gives-check _ _ _ count gives-good)) (λ r. gives-good)
+
+-- both, where one statement serves all numbers of its own place
+module _ {P : ℕ → ℕ → Type 0} (p : ℕ) (own : (n : ℕ) → 1 ≤ n → n ≤ 9 → P n p) (option : (q : ℕ) → P OPTION q) (bad-package : (q : ℕ) → P PACKAGE q) where
+  gives-header : (s : List ℕ) (h : Head) → Gives P (optionRunLength p s h)
+  gives-header s h = gives-seven p (λ n l m. own n l (omega arith)) option s h
+
+  pub gives-ten : (s : List ℕ) (h : Head) → Gives P (checksOneToTen p s h)
+  gives-ten s h = gives-behind p (own _ (omega arith) (omega arith)) (own _ (omega arith) (omega arith)) bad-package s h (gives-header s h)
+
+  pub gives-message : P COUNT p → (s : List ℕ) → Gives P (message p s)
+  gives-message count s = gives-whole p (own _ (omega arith) (omega arith)) (own _ (omega arith) (omega arith)) bad-package count s (gives-header s (head s))
 
 -- ---- a sheet, which gives ROW
 
@@ -125,6 +141,14 @@ numbered-message p s = gives-message p (λ n l m. l) (λ q. omega arith) (λ q. 
 
 pub numbered-sheet : (s : List ℕ) → Gives Numbered (sheet s)
 numbered-sheet s = gives-sheet (λ q. omega arith) s
+
+-- ---- a header gives numbers up to 7, and what a message gives up to 7 its header gives
+
+pub header-numbered : (s : List ℕ) → Gives (λ n q. n ≤ OPTION) (optionRunLength 0 s (head s))
+header-numbered s = gives-seven 0 (λ n l m. omega arith) (λ q. omega arith) s (head s)
+
+pub message-early : (s : List ℕ) → Gives (λ n q. n ≤ OPTION → optionRunLength 0 s (head s) ≡ bad n q) (message 0 s)
+message-early s = gives-whole 0 (λ l. absurd (omega arith)) (λ l. absurd (omega arith)) (λ q l. absurd (omega arith)) (λ l. absurd (omega arith)) s (record { given = λ n q e l. e })
 
 -- ---- SHORT and CUT have the message's own place
 

@@ -1,11 +1,11 @@
 -- A package is granted exactly if, for some row, its ids lie in the ranges, its time in the window, and its message is one that the row grants in; windows that
--- meet; and no window is empty.
+-- meet; and which rows keep the rules, by which no window is empty.
 use mathlib.Core.Path.{_≡_, refl, subst}
 use mathlib.Core.Logic.{_↔_}
 use mathlib.Core.Bool.{Bool, true, false, not, _&&_, _||_}
 use mathlib.Core.List.{List, [], _∷_}
 use native.Mathlib.Omega.{arith}
-use borrow.Author.Tests.{leb-true, ltb-true, ltb-false, eqb-true, eqb-false, not-true, not-false, le-leb, lt-leb, lt-ltb, ne-eqb}
+use borrow.Author.Tests.{leb-true, ltb-true, ltb-false, eqb-true, eqb-false, not-true, not-false, le-leb, lt-leb, lt-ltb, eq-eqb, ne-eqb}
 use lib.Dec.{leb, ltb}
 use Prim.Native.Nat.{ℕ, _/_, _%_, _≤_, _<_}
 use Rattle.rules.specs.Outcome.{good}
@@ -135,32 +135,27 @@ module _ (m : Message) (k : Package) where
   unfolding granted grants
   seam-whole r a b c l h = meets (ids r) (startOf (over a b r)) (endOf (over a b r)) (endOf (over b c r)) time (not (r .acquiredOnly && isSimulated (m .flags))) (omega arith) (omega arith)
 
--- ---- every row of a sheet that passes starts before it ends
+-- ---- which rows keep the rules, and that every row of a sheet that passes starts before it ends
 
--- what a row that keeps the rules says
-record Keeps (r : Row) : Type 0 where
-  messages : r .firstMessage ≤ r .lastMessage
-  packages : r .firstPackage ≤ r .lastPackage
-  start : r .startNanos ≤ mostNanos
-  end : r .endNanos ≤ mostNanos
-  window : startOf r < endOf r
-  spare : r .spare ≡ 0
-
-keeps : (r : Row) → rowFits r ≡ true → Keeps r
+pub row-exactly : (r : Row) → (rowFits r ≡ true)
+    ↔ ((r .firstMessage ≤ r .lastMessage) × (r .firstPackage ≤ r .lastPackage) × (r .startNanos ≤ mostNanos) × (r .endNanos ≤ mostNanos) × (startOf r < endOf r) × (r .spare ≡ 0))
 unfolding rowFits
-keeps r e =
-    let (e, a) = both _ _ e in
-    let (e, b) = both _ _ e in
-    let (e, c) = both _ _ e in
-    let (e, d) = both _ _ e in
-    let (f, g) = both _ _ e in
-    record { messages = leb-true _ _ f; packages = leb-true _ _ g; start = leb-true _ _ d; end = leb-true _ _ c; window = ltb-true _ _ b; spare = eqb-true _ _ a }
+row-exactly r = (
+  λ e.
+      let (e, a) = both _ _ e in
+      let (e, b) = both _ _ e in
+      let (e, c) = both _ _ e in
+      let (e, d) = both _ _ e in
+      let (f, g) = both _ _ e in
+      (leb-true _ _ f, leb-true _ _ g, leb-true _ _ d, leb-true _ _ c, ltb-true _ _ b, eqb-true _ _ a),
+  λ w. rw (le-leb _ _ (w .0), le-leb _ _ (w .1), le-leb _ _ (w .2), le-leb _ _ (w .3), lt-ltb _ _ (w .4), eq-eqb _ _ (w .5)),
+)
 
 row-window : (p : ℕ) (s : List ℕ) (r : Row × ℕ) → row p s ≡ good r → startOf (r .0) < endOf (r .0)
 unfolding row
 row-window p s r e =
     let (t, z) = passed _ _ _ _ e in
-    subst (λ (x : Row × ℕ). startOf (x .0) < endOf (x .0)) (good-inj z) (keeps _ (not-false _ t) .window)
+    subst (λ (x : Row × ℕ). startOf (x .0) < endOf (x .0)) (good-inj z) (row-exactly _ .0 (not-false _ t) .4)
 
 pub no-empty-window : (s : List ℕ) (rows : List Row) → sheet s ≡ good rows → All (λ (r : Row). startOf r < endOf r) rows
 unfolding sheet

@@ -9,7 +9,7 @@ use lib.Dec.{ltb}
 use lib.ListN.{length}
 use Rattle.rules.specs.Outcome.{Outcome, good, bad, _>>=_, ROOM}
 use Rattle.rules.specs.Buffer.{fitted}
-use Rattle.rules.specs.Copy.{Entry, Answer, copyBytes, roomFor, reported, filled, answered}
+use Rattle.rules.specs.Copy.{Entry, Answer, refusal, copyBytes, roomFor, reported, filled, answered}
 use Rattle.rules.proofs.Outcomes.{pass, halt, step, stop}
 use Rattle.rules.proofs.Nevers.{Never}
 
@@ -32,7 +32,7 @@ measured-enough (good es) buffer l = ap reported (room-for buffer es l)
 measured-enough (bad n p) buffer l = refl
 
 pub measured-short : (o : Outcome (List Entry)) (buffer : List ℕ) → length buffer < reported o .bytes
-    → reported (o >>= roomFor buffer) ≡ record { number = ROOM; place = reported o .bytes; bytes = 0; messages = 0; packages = 0 }
+    → reported (o >>= roomFor buffer) ≡ refusal ROOM (reported o .bytes)
 unfolding reported _>>=_
 measured-short (good es) buffer l = ap reported (no-room-for buffer es l)
 measured-short (bad n p) buffer l = absurd (omega (arith, l))

@@ -4,11 +4,9 @@ use mathlib.Core.Path.{_≡_, refl}
 use mathlib.Core.List.{List}
 use native.Mathlib.Omega.{arith}
 use Rattle.rules.specs.Outcome.{Outcome, bad, ROOM}
-use Rattle.rules.specs.Options.{optionRunFrom}
-use Rattle.rules.specs.Packages.{cut}
 use Rattle.rules.specs.Message.{Head, checksOneToTen, message, recording}
 use Rattle.rules.specs.Copy.{releasedOf}
-use Rattle.rules.proofs.Gives.{Gives, gives-good, gives-check, gives-step, gives-items, gives-run, gives-cut, gives-ten, gives-message, gives-sheet}
+use Rattle.rules.proofs.Gives.{Gives, gives-good, gives-check, gives-step, gives-items, gives-ten, gives-message, gives-sheet}
 
 -- o is not refused with number x
 pub record Never (x : ℕ) {A : Type 0} (o : Outcome A) : Type 0 where
@@ -22,12 +20,6 @@ never {x} g = record { given = λ p e. g .given x p e refl }
 
 -- the numbers of checks 1 to 10 are 1 to 10
 module _ (x : ℕ) (other : (n : ℕ) → 1 ≤ n → n ≤ 10 → n ≡ x → ⊥) where
-  pub never-run : (seen : List ℕ) (k p n : ℕ) (o : List ℕ) → Never x (optionRunFrom seen k p n o)
-  never-run seen k p n o = never (gives-run (λ q. other _ (omega arith) (omega arith)) seen k p n o)
-
-  pub never-cut : (p : ℕ) (s : List ℕ) → Never x (cut p s)
-  never-cut p s = never (gives-cut (λ q. other _ (omega arith) (omega arith)) p s)
-
   pub never-ten : (p : ℕ) (s : List ℕ) (h : Head) → Never x (checksOneToTen p s h)
   never-ten p s h = never (gives-ten p (λ n l m. other n l (omega arith)) (λ q. other _ (omega arith) (omega arith)) (λ q. other _ (omega arith) (omega arith)) s h)
 

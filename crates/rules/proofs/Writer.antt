@@ -5,9 +5,10 @@ use mathlib.Core.Logic.{_↔_, ⊎-elim}
 use mathlib.Core.Bool.{false}
 use mathlib.Core.List.{List, [], map}
 use native.Mathlib.Omega.{arith}
-use borrow.Author.Tests.{ltb-false, le-ltb}
+use borrow.Author.Tests.{ltb-true, ltb-false, le-ltb, lt-ltb}
+use lib.Dec.{ltb}
 use lib.ListN.{length, length-map}
-use Rattle.rules.specs.Outcome.{good, bad, COUNT}
+use Rattle.rules.specs.Outcome.{Outcome, good, bad, refuse, _>>=_, _>>_, OPTION, COUNT}
 use Rattle.rules.specs.Bytes.{Bytes, pad, part, join}
 use Rattle.rules.specs.Options.{optionRunFrom, countSaid, differs}
 use Rattle.rules.specs.Items.{Fills}
@@ -15,14 +16,13 @@ use Rattle.rules.specs.Packages.{cut, packageOf, pieceOf, Piece}
 use Rattle.rules.specs.Message.{head, payloadStart, Message, recordOf}
 use Rattle.rules.specs.Clean.{cleanBytes}
 use Rattle.rules.specs.Valid.{Valid, DraftFits}
-use Rattle.rules.specs.Claims.{WholeRun, SaysOther}
+use Rattle.rules.specs.Claims.{WholeRun, SaysOther, draftBytes, DraftSizes, DraftRefused, large, bad-time, long-run, bad-option, zero-option, bad-package, bad-count}
 use Rattle.rules.specs.Writer.{Draft, drafted, accepted, written}
 use Rattle.rules.proofs.Outcomes.{pass, halt, step, stop, passed, stepped, good-inj, good≢bad, refused-at, refused-step, refused-only}
 use Rattle.rules.proofs.Cut as Cut
 use Rattle.rules.proofs.Run.{run-ends}
 use Rattle.rules.proofs.Counts.{agreed, told-other, other-told}
-use Rattle.rules.proofs.Nevers.{never-run, never-cut}
-use Rattle.rules.proofs.Wholes.{whole-run-by}
+use Rattle.rules.proofs.Wholes.{whole-run-by, option-stopped}
 use Rattle.rules.proofs.Passed.{Passed}
 use Rattle.rules.proofs.Cleaned.{fills, payload-bytes, write-read}
 use Rattle.rules.proofs.Valids.{valid-packages, same-lengths, kept-flags, valid}
@@ -114,48 +114,87 @@ parts-written p s r b l w =
     (step _ _ (Cut.complete f 0) (pass _ _ _ _ (w .count) refl)))))))
     (ap good (write-read p s r b w))
 
+-- ---- why a draft is refused
+
+drafted-there : (d : Draft) {n p : ℕ} → accepted d ≡ bad n p → DraftRefused d n p
+unfolding accepted
+drafted-there d e =
+    ⊎-elim (λ z. rw (← z .1, ← z .2) (large (ltb-true _ _ (z .0)))) (λ a.
+    let size = ltb-false _ _ (a .0) in
+    ⊎-elim (λ z. rw (← z .1, ← z .2) (bad-time size (ltb-true _ _ (z .0)))) (λ b.
+    let nanos = ltb-false _ _ (b .0) in
+    ⊎-elim (λ z. rw (← z .1, ← z .2) (long-run size nanos (ltb-true _ _ (z .0)))) (λ c.
+    let sizes : DraftSizes d = record { message = size; nanos = nanos; run = ltb-false _ _ (c .0) } in
+    ⊎-elim (λ z. let m = option-stopped 0 (d .options) z .number in rw m (bad-option sizes (rw m at z))) (λ r.
+    ⊎-elim (λ z. rw (← z .1, ← z .2) (zero-option sizes (r .1) (ltb-true _ _ (z .0)))) (λ g.
+    let whole : WholeRun (d .options) = whole-run-by (d .options) .0 (whole-run (d .options) (r .0) (r .1) (ltb-false _ _ (g .0))) in
+    ⊎-elim (λ z. let m = Cut.refused 0 0 (d .packages) z .number in rw m (bad-package sizes whole (rw m at z))) (λ k.
+    ⊎-elim (λ z. rw (← z .1, ← z .2) (bad-count sizes whole (Cut.sound 0 0 (d .packages) (k .1)) (told-other (countSaid (d .options)) (length (k .0)) (z .0))))
+    (λ z. absurd (good≢bad (sym (z .1)))) (refused-at _ _ _ _ (k .2)))
+    (refused-step _ _ (g .1))) (refused-at _ _ _ _ (r .2))) (refused-step _ _ (c .1))) (refused-at _ _ _ _ (b .1))) (refused-at _ _ _ _ (a .1))) (refused-at _ _ _ _ e)
+
+-- the checks behind those of its sizes, and behind those of its option run
+module _ (d : Draft) where
+  abbrev packageChecks : Outcome Message
+  packageChecks = cut 0 (d .packages) >>= λ cs. refuse (differs (countSaid (d .options)) (length cs)) COUNT 0 >> good (drafted d cs)
+
+  abbrev optionChecks : Outcome Message
+  optionChecks = optionRunFrom [] 0 0 0 (d .options) >>= λ n. refuse (ltb n (length (d .options))) OPTION n >> packageChecks
+
+  behind-sizes : DraftSizes d → {o : Outcome Message} → optionChecks ≡ o → accepted d ≡ o
+  unfolding accepted
+  behind-sizes w e =
+      pass _ _ _ _ (le-ltb 65536 (draftBytes d) (w .message))
+      (pass _ _ _ _ (le-ltb 999999999 (d .nanos) (w .nanos))
+      (pass _ _ _ _ (le-ltb 60 (length (d .options)) (w .run)) e))
+
+  behind-run : DraftSizes d → WholeRun (d .options) → {o : Outcome Message} → packageChecks ≡ o → accepted d ≡ o
+  behind-run w r e = behind-sizes w (step _ _ (whole-run-by (d .options) .1 r) (pass _ _ _ _ (le-ltb (length (d .options)) (length (d .options)) (omega arith)) e))
+
+drafted-back : (d : Draft) {n p : ℕ} → DraftRefused d n p → accepted d ≡ bad n p
+unfolding accepted
+drafted-back d (large l) = halt _ _ _ _ (lt-ltb 65536 (draftBytes d) l)
+drafted-back d (bad-time l h) = pass _ _ _ _ (le-ltb 65536 (draftBytes d) l) (halt _ _ _ _ (lt-ltb 999999999 (d .nanos) h))
+drafted-back d (long-run l t h) =
+    pass _ _ _ _ (le-ltb 65536 (draftBytes d) l)
+    (pass _ _ _ _ (le-ltb 999999999 (d .nanos) t) (halt _ _ _ _ (lt-ltb 60 (length (d .options)) h)))
+drafted-back d (bad-option w e) = behind-sizes d w (stop _ _ e)
+drafted-back d (zero-option {p = p} w e l) = behind-sizes d w (step _ _ e (halt _ _ _ _ (lt-ltb p (length (d .options)) l)))
+drafted-back d (bad-package w r e) = behind-run d w r (stop _ _ e)
+drafted-back d (bad-count {pieces = cs} w r f o) = behind-run d w r (step _ _ (Cut.complete f 0) (halt _ _ _ _ (other-told (countSaid (d .options)) (length cs) (o .0) (o .1) (o .2))))
+
+pub draft-refused : (d : Draft) (n p : ℕ) → (written d ≡ bad n p) ↔ DraftRefused d n p
+unfolding written
+draft-refused d n p = (λ e. drafted-there d (refused-only _ _ e), λ r. stop _ _ (drafted-back d r))
+
+pub draft-numbered : (d : Draft) {n p : ℕ} → DraftRefused d n p → n ≡ 0 → ⊥
+draft-numbered d (large l) e = omega arith
+draft-numbered d (bad-time l h) e = omega arith
+draft-numbered d (long-run l t h) e = omega arith
+draft-numbered d (bad-option w h) e = omega arith
+draft-numbered d (zero-option w h l) e = omega arith
+draft-numbered d (bad-package w r h) e = omega arith
+draft-numbered d (bad-count w r f o) e = omega arith
+
 -- all that the writer checks before COUNT passes, and the option run says another number than that of the packages
 abbrev Miscounts : Draft → ℕ → Type 0
 Miscounts d q = (q ≡ 0) × (24 + pad (length (d .options)) + length (d .packages) ≤ 65536) × (d .nanos ≤ 999999999) × (length (d .options) ≤ 60) × WholeRun (d .options)
     × ((cs : List (List ℕ)) × Fills Piece cs (d .packages) × SaysOther (d .options) (length cs))
 
 -- COUNT is the last refusal before ROOM, and those before it have other numbers
-miscounts : (d : Draft) (q : ℕ) → accepted d ≡ bad COUNT q → Miscounts d q
-unfolding accepted
-miscounts d q e =
-    ⊎-elim (λ m. absurd (omega (arith, m .1))) (λ a.
-    ⊎-elim (λ m. absurd (omega (arith, m .1))) (λ b.
-    ⊎-elim (λ m. absurd (omega (arith, m .1))) (λ c.
-    ⊎-elim (λ m. absurd (never-run COUNT (λ n l h e. omega arith) [] 0 0 0 (d .options) .given q m)) (λ r.
-    ⊎-elim (λ m. absurd (omega (arith, m .1))) (λ g.
-    ⊎-elim (λ m. absurd (never-cut COUNT (λ n l h e. omega arith) 0 (d .packages) .given q m)) (λ k.
-    ⊎-elim (λ m. (
-      sym (m .2),
-      ltb-false _ _ (a .0),
-      ltb-false _ _ (b .0),
-      ltb-false _ _ (c .0),
-      whole-run-by (d .options) .0 (whole-run (d .options) (r .0) (r .1) (ltb-false _ _ (g .0))),
-      (k .0, Cut.sound 0 0 (d .packages) (k .1), told-other (countSaid (d .options)) (length (k .0)) (m .0)),
-    ))
-    (λ z. absurd (good≢bad (sym (z .1)))) (refused-at _ _ _ _ (k .2)))
-    (refused-step _ _ (g .1))) (refused-at _ _ _ _ (r .2))) (refused-step _ _ (c .1))) (refused-at _ _ _ _ (b .1))) (refused-at _ _ _ _ (a .1))) (refused-at _ _ _ _ e)
+miscounts : (d : Draft) {n q : ℕ} → DraftRefused d n q → n ≡ COUNT → Miscounts d q
+miscounts d (large l) e = absurd (omega arith)
+miscounts d (bad-time l h) e = absurd (omega arith)
+miscounts d (long-run l t h) e = absurd (omega arith)
+miscounts d (bad-option w h) e = absurd (omega arith)
+miscounts d (zero-option w h l) e = absurd (omega arith)
+miscounts d (bad-package w r h) e = absurd (omega arith)
+miscounts d (bad-count {pieces = cs} w r f o) e = (refl, w .message, w .nanos, w .run, r, (cs, f, o))
 
-miscounted : (d : Draft) (q : ℕ) → Miscounts d q → accepted d ≡ bad COUNT q
-unfolding accepted
+miscounted : (d : Draft) (q : ℕ) → Miscounts d q → DraftRefused d COUNT q
 miscounted d q m =
-    let (z, a, b, c, o, w) = m in
-    let (cs, f, w) = w in
-    pass _ _ _ _ (le-ltb 65536 (24 + pad (length (d .options)) + length (d .packages)) a)
-    (pass _ _ _ _ (le-ltb 999999999 (d .nanos) b)
-    (pass _ _ _ _ (le-ltb 60 (length (d .options)) c)
-    (step _ _ (whole-run-by (d .options) .1 o)
-    (pass _ _ _ _ (le-ltb (length (d .options)) (length (d .options)) (omega arith))
-    (step _ _ (Cut.complete f 0)
-    (rw z (halt _ _ _ _ (other-told (countSaid (d .options)) (length cs) (w .0) (w .1) (w .2)))))))))
+    let (z, a, b, c, r, w) = m in
+    rw z (bad-count {pieces = w .0} (record { message = a; nanos = b; run = c }) r (w .1) (w .2))
 
 pub count-written : (d : Draft) (q : ℕ) → (written d ≡ bad COUNT q) ↔ Miscounts d q
-unfolding written
-count-written d q = (
-  (λ e. miscounts d q (refused-only _ _ e)),
-  λ w. stop _ _ (miscounted d q w),
-)
+count-written d q = (λ e. miscounts d (draft-refused d COUNT q .0 e) refl, λ m. draft-refused d COUNT q .1 (miscounted d q m))

@@ -4,9 +4,9 @@ use mathlib.Core.Path.{_≡_}
 use mathlib.Core.Logic.{_↔_, _⊎_}
 use mathlib.Core.Bool.{true, false, not, _&&_, _||_}
 use mathlib.Core.List.{List, [], _∷_, _++_, map}
-use mathlib.Core.Option.{some}
+use mathlib.Core.Option.{none, some}
 use lib.ListN.{length, getD, take, drop}
-use Rattle.rules.specs.Outcome.{good, bad, OPTION, PACKAGE, ROW, LARGE, ROOM, COUNT}
+use Rattle.rules.specs.Outcome.{good, bad, TIME, OPTION, PACKAGE, ROW, LARGE, ROOM, MARKER, BLOCKS, COUNT}
 use Rattle.rules.specs.Bytes.{Bytes, word, pad, part, join}
 use Rattle.rules.specs.Items.{items, All, Fills, count, passing}
 use Rattle.rules.specs.Options.{mostOptionBytes, optionFits, isSecond, optionRunFrom, countSaid, kindOf, WholeOption}
@@ -18,8 +18,8 @@ use Rattle.rules.specs.Walk.{PackageSpot, packageAt, dataAt, nextAt, Wal
 use Rattle.rules.specs.Writer.{write, Draft, accepted, written, writer}
 use Rattle.rules.specs.Clean.{cleanForm, cleaner}
 use Rattle.rules.specs.Valid.{Valid, DraftFits}
-use Rattle.rules.specs.Sheet.{rowBytes, mostRows, Row, rowOf, startOf, endOf, row, sheet}
-use Rattle.rules.specs.Copy.{granted, Entry, grantedPackages, released, copyMessage, copyMessages, copyBytes, Answer, releasedOf, measurement, copy, delivered}
+use Rattle.rules.specs.Sheet.{rowBytes, mostRows, Row, rowOf, startOf, endOf, rowFits, row, sheet, sheetRows}
+use Rattle.rules.specs.Copy.{granted, Entry, grantedPackages, released, copyMessage, copyMessages, copyBytes, refusal, releasedOf, measurement, copy, delivered}
 use Rattle.rules.specs.Turns.{Copied, releasedBy, Holds}
 use Rattle.rules.specs.Table.{Table}
 use Rattle.rules.specs.Edges.{Edges}
@@ -80,6 +80,16 @@ WriterWrites = (d : Draft) (c : List ℕ) → written d ≡ good c → Writes c 
 abbrev pub CleanerWrites : Type 0
 CleanerWrites = (s c : List ℕ) → length s ≤ mostBytes → cleanForm s ≡ good c → Writes c (cleaner s)
 
+-- Why and where the cleaner refuses: its input is too large; or a check does not pass its first message; or the buffer has no room for the clean form.
+pub data CleaningRefused (s buffer : List ℕ) : ℕ → ℕ → Type 0 where
+  large : mostBytes < length s → CleaningRefused s buffer LARGE mostBytes
+  bad-message : {n p : ℕ} → length s ≤ mostBytes → message 0 s ≡ bad n p → CleaningRefused s buffer n p
+  no-room : {c : List ℕ} → length s ≤ mostBytes → cleanForm s ≡ good c → length buffer < length c → CleaningRefused s buffer ROOM (length c)
+
+-- The cleaner refuses exactly so, with nothing written and its buffer as it was. No reason has the number 0.
+abbrev pub CleanerRefuses : Type 0
+CleanerRefuses = (s buffer : List ℕ) (n p : ℕ) → ((n ≡ 0 → ⊥) × (cleaner s buffer ≡ (record { number = n; place = p; bytes = 0 }, buffer))) ↔ CleaningRefused s buffer n p
+
 -- What follows the message changes nothing of its clean form.
 abbrev pub CleanAlone : Type 0
 CleanAlone = (s behind c : List ℕ) → cleanForm s ≡ good c → cleanForm (s ++ behind) ≡ good c
@@ -112,6 +122,10 @@ pub record SpotExactly : Type 0 where
   pub told : (s : List ℕ) (p : ℕ) → length s ≤ mostBytes → (m : Message) (n : ℕ) → message p (drop p s) ≡ good (m, n) → (k : MessageSpot) × (messageAt s p ≡ good k)
   pub refused : (s : List ℕ) (p : ℕ) → length s ≤ mostBytes → (n q : ℕ) → message p (drop p s) ≡ bad n q → messageAt s p ≡ bad n q
 
+-- A header alone is refused by checks 1 to 7 and no other: exactly where one of these refuses its message, with that number and place.
+abbrev pub HeaderRefused : Type 0
+HeaderRefused = (s : List ℕ) (n p : ℕ) → length s ≤ mostBytes → (header s ≡ bad n p) ↔ ((n ≤ OPTION) × (message 0 s ≡ bad n p))
+
 -- A recording checked: how many messages it has, and how many packages, those of all messages joined.
 abbrev pub CountsChecked : Type 0
 CountsChecked = (s : List ℕ) (ms : List Message) → recording s ≡ good ms → checkedRecording s ≡ good (length ms, length (join (map (λ (m : Message). m .packages) ms)))
@@ -128,7 +142,7 @@ pub record PackageExactly : Type 0 where
 
 -- Why and where a recording is refused: it is too large; or behind messages that pass, the next one does not.
 pub data BadRecording (s : List ℕ) : ℕ → ℕ → Type 0 where
-  too-large : mostBytes < length s → BadRecording s LARGE mostBytes
+  large : mostBytes < length s → BadRecording s LARGE mostBytes
   bad-message : {q n p : ℕ} {before : List Message} → length s ≤ mostBytes → items message 0 0 (take q s) ≡ good before → q < length s → message q (drop q s) ≡ bad n p → BadRecording s n p
 
 -- as many bytes as a sheet may have: whole rows, and no more than 32
@@ -139,28 +153,27 @@ pub record SheetSize (s : List ℕ) : Type 0 where
 -- Why and where a sheet is refused: its size; or behind rows that keep the rules, the next one does not.
 pub data BadSheet (s : List ℕ) : ℕ → ℕ → Type 0 where
   bad-size : (SheetSize s → ⊥) → BadSheet s ROW (length s)
-  bad-row : (i : ℕ) {n p : ℕ} {before : List Row} → SheetSize s → items row 0 0 (take (i * rowBytes) s) ≡ good before → i * rowBytes < length s → row (i * rowBytes) (drop (i * rowBytes) s) ≡ bad n p → BadSheet s n p
+  bad-row : (i : ℕ) {before : List Row} → SheetSize s → items row 0 0 (take (i * rowBytes) s) ≡ good before → i * rowBytes < length s → row (i * rowBytes) (drop (i * rowBytes) s) ≡ bad ROW (i * rowBytes) → BadSheet s ROW (i * rowBytes)
 
--- Why and where nothing is released: the sheet is refused, and then the recording.
-pub data Unreleased (recordingBytes sheetBytes : List ℕ) : ℕ → ℕ → Type 0 where
-  by-sheet : {n p : ℕ} → BadSheet sheetBytes n p → Unreleased recordingBytes sheetBytes n p
-  by-recording : {n p : ℕ} {rows : List Row} → sheet sheetBytes ≡ good rows → BadRecording recordingBytes n p → Unreleased recordingBytes sheetBytes n p
+-- Why and where a released list is refused: by the sheet; or the sheet passes, and by the recording.
+pub data ReleaseRefused (recordingBytes sheetBytes : List ℕ) : ℕ → ℕ → Type 0 where
+  by-sheet : {n p : ℕ} → BadSheet sheetBytes n p → ReleaseRefused recordingBytes sheetBytes n p
+  by-recording : {n p : ℕ} {rows : List Row} → sheet sheetBytes ≡ good rows → BadRecording recordingBytes n p → ReleaseRefused recordingBytes sheetBytes n p
 
--- Why and where nothing is copied: nothing is released, and then there is no room for what is.
-pub data Uncopied (recordingBytes sheetBytes buffer : List ℕ) : ℕ → ℕ → Type 0 where
-  unreleased : {n p : ℕ} → Unreleased recordingBytes sheetBytes n p → Uncopied recordingBytes sheetBytes buffer n p
-  roomless : {es : List Entry} → releasedOf recordingBytes sheetBytes ≡ good es → length buffer < length (copyBytes es) → Uncopied recordingBytes sheetBytes buffer ROOM (length (copyBytes es))
+-- Why and where a copy is refused: its released list is; or it is not, and the buffer has no room for its copy.
+pub data CopyRefused (recordingBytes sheetBytes buffer : List ℕ) : ℕ → ℕ → Type 0 where
+  by-release : {n p : ℕ} → ReleaseRefused recordingBytes sheetBytes n p → CopyRefused recordingBytes sheetBytes buffer n p
+  no-room : {es : List Entry} → releasedOf recordingBytes sheetBytes ≡ good es → length buffer < length (copyBytes es) → CopyRefused recordingBytes sheetBytes buffer ROOM (length (copyBytes es))
 
--- a refusal: its number and its place, and all else zero
-abbrev pub refusalAt : ℕ → ℕ → Answer
-refusalAt n p = record { number = n; place = p; bytes = 0; messages = 0; packages = 0 }
-
--- Recordings, sheets and copies are refused exactly so; a copy with its buffer as it was.
+-- Recordings, sheets, released lists and copies are refused exactly so; a copy with its buffer as it was. No reason has the number 0.
 pub record RefusalsExactly : Type 0 where
   pub recording : (s : List ℕ) (n p : ℕ) → (recording s ≡ bad n p) ↔ BadRecording s n p
+  pub checked : (s : List ℕ) (n p : ℕ) → (checkedRecording s ≡ bad n p) ↔ BadRecording s n p
   pub sheet : (s : List ℕ) (n p : ℕ) → (sheet s ≡ bad n p) ↔ BadSheet s n p
-  pub measured : (recordingBytes sheetBytes : List ℕ) (n p : ℕ) → (n ≡ 0 → ⊥) → (measurement recordingBytes sheetBytes ≡ refusalAt n p) ↔ Unreleased recordingBytes sheetBytes n p
-  pub copied : (recordingBytes sheetBytes buffer : List ℕ) (n p : ℕ) → (n ≡ 0 → ⊥) → (copy recordingBytes sheetBytes buffer ≡ (refusalAt n p, buffer)) ↔ Uncopied recordingBytes sheetBytes buffer n p
+  pub rows : (s : List ℕ) (n p : ℕ) → (sheetRows s ≡ bad n p) ↔ BadSheet s n p
+  pub released : (recordingBytes sheetBytes : List ℕ) (n p : ℕ) → (releasedOf recordingBytes sheetBytes ≡ bad n p) ↔ ReleaseRefused recordingBytes sheetBytes n p
+  pub measured : (recordingBytes sheetBytes : List ℕ) (n p : ℕ) → ((n ≡ 0 → ⊥) × (measurement recordingBytes sheetBytes ≡ refusal n p)) ↔ ReleaseRefused recordingBytes sheetBytes n p
+  pub copied : (recordingBytes sheetBytes buffer : List ℕ) (n p : ℕ) → ((n ≡ 0 → ⊥) × (copy recordingBytes sheetBytes buffer ≡ (refusal n p, buffer))) ↔ CopyRefused recordingBytes sheetBytes buffer n p
 
 -- P holds of some element
 pub data Some {A : Type 0} (P : A → Type 0) : List A → Type 0 where
@@ -194,11 +207,46 @@ pub record CountExactly : Type 0 where
   pub written : (d : Draft) (q : ℕ) → (written d ≡ bad COUNT q) ↔ ((q ≡ 0) × (headerBytes + pad (length (d .options)) + length (d .packages) ≤ mostBytes) × (d .nanos ≤ mostNanos)
       × (length (d .options) ≤ mostOptionBytes) × WholeRun (d .options) × ((pieces : List (List ℕ)) × Fills Piece pieces (d .packages) × SaysOther (d .options) (length pieces)))
 
+-- how many bytes the message of a draft takes
+abbrev pub draftBytes : Draft → ℕ
+draftBytes d = headerBytes + pad (length (d .options)) + length (d .packages)
+
+-- what the writer asks of a draft before it looks at an option: the size of its message, its nanoseconds, and the size of its option run
+pub record DraftSizes (d : Draft) : Type 0 where
+  pub message : draftBytes d ≤ mostBytes
+  pub nanos : d .nanos ≤ mostNanos
+  pub run : length (d .options) ≤ mostOptionBytes
+
+-- Why and where a draft is refused, the first of these: its message is too large; its nanoseconds are a second or more; its option run is above 60 bytes;
+-- an option is bad, or it is one of kind 0x00, which ends the run before its bytes end; a package is bad; or the run says another number of packages.
+pub data DraftRefused (d : Draft) : ℕ → ℕ → Type 0 where
+  large : mostBytes < draftBytes d → DraftRefused d LARGE mostBytes
+  bad-time : draftBytes d ≤ mostBytes → mostNanos < d .nanos → DraftRefused d TIME 0
+  long-run : draftBytes d ≤ mostBytes → d .nanos ≤ mostNanos → mostOptionBytes < length (d .options) → DraftRefused d OPTION mostOptionBytes
+  bad-option : {p : ℕ} → DraftSizes d → optionRunFrom [] 0 0 0 (d .options) ≡ bad OPTION p → DraftRefused d OPTION p
+  zero-option : {p : ℕ} → DraftSizes d → optionRunFrom [] 0 0 0 (d .options) ≡ good p → p < length (d .options) → DraftRefused d OPTION p
+  bad-package : {p : ℕ} → DraftSizes d → WholeRun (d .options) → cut 0 (d .packages) ≡ bad PACKAGE p → DraftRefused d PACKAGE p
+  bad-count : {pieces : List (List ℕ)} → DraftSizes d → WholeRun (d .options) → Fills Piece pieces (d .packages) → SaysOther (d .options) (length pieces) → DraftRefused d COUNT 0
+
+-- Why and where writing is refused: its draft is; or it is not, and the buffer has no room for its message.
+pub data WritingRefused (d : Draft) (buffer : List ℕ) : ℕ → ℕ → Type 0 where
+  by-draft : {n p : ℕ} → DraftRefused d n p → WritingRefused d buffer n p
+  no-room : {c : List ℕ} → written d ≡ good c → length buffer < length c → WritingRefused d buffer ROOM (length c)
+
+-- Drafts are refused exactly so, and so is writing them, with nothing written and the buffer as it was. No reason has the number 0.
+pub record WriterRefuses : Type 0 where
+  pub drafts : (d : Draft) (n p : ℕ) → (written d ≡ bad n p) ↔ DraftRefused d n p
+  pub writer : (d : Draft) (buffer : List ℕ) (n p : ℕ) → ((n ≡ 0 → ⊥) × (writer d buffer ≡ (record { number = n; place = p; bytes = 0 }, buffer))) ↔ WritingRefused d buffer n p
+
 -- A walk shows every package of the cut, in order, and then the end. Where a step shows no package, at the end or at a refusal, the walk has not moved and the
--- part shown is empty.
+-- part shown is empty. A run that is too large is refused at every step; in any other the end is shown exactly at the run's end and behind it, and
+-- PACKAGE is given exactly before that, where a package does not keep the rules, with its place.
 pub record WalkExactly : Type 0 where
   pub shows : (s : List ℕ) → length s ≤ mostBytes → (pieces : List (List ℕ)) → cut 0 s ≡ good pieces → Walks s 0 (map packageOf pieces)
   pub stays : (s : List ℕ) (i : ℕ) → ((k : PackageSpot) → packageAt s i ≡ good (some k) → ⊥) → (nextAt s i ≡ i) × (dataAt s i ≡ [])
+  pub large : (s : List ℕ) (i : ℕ) → mostBytes < length s → packageAt s i ≡ bad LARGE mostBytes
+  pub ended : (s : List ℕ) (i : ℕ) → length s ≤ mostBytes → (packageAt s i ≡ good none) ↔ (length s ≤ i)
+  pub refused : (s : List ℕ) (i n p : ℕ) → length s ≤ mostBytes → (packageAt s i ≡ bad n p) ↔ ((n ≡ PACKAGE) × (p ≡ i) × (i < length s) × (packageFits (drop i s) ≡ false))
 
 -- A package is granted exactly if, in some row, message id and package id lie in the ranges, ends included, and package time in the window, start included and end not;
 -- and, where the row is for acquired data only, flag bit 3 of the message is 0. Each row is judged by itself.
@@ -213,6 +261,12 @@ pub record InRanges (m : Message) (k : Package) (r : Row) : Type 0 where
 
 abbrev pub GrantedExactly : Type 0
 GrantedExactly = (rows : List Row) (m : Message) (k : Package) → (granted rows m k ≡ true) ↔ Some (InRanges m k) rows
+
+-- A row keeps the rules exactly if in each pair of ids the first is at most the last, both times have nanoseconds within a second, the window starts before it
+-- ends, and the spare bits are zero.
+abbrev pub RowExactly : Type 0
+RowExactly = (r : Row) → (rowFits r ≡ true)
+    ↔ ((r .firstMessage ≤ r .lastMessage) × (r .firstPackage ≤ r .lastPackage) × (r .startNanos ≤ mostNanos) × (r .endNanos ≤ mostNanos) × (startOf r < endOf r) × (r .spare ≡ 0))
 
 -- r with a window from start to end, in nanoseconds
 abbrev pub over : ℕ → ℕ → Row → Row
@@ -248,6 +302,16 @@ abbrev pub BurstExactly : Type 0
 BurstExactly = (s : List ℕ) → Bytes s → (blocks : ℕ) (after : List ℕ) → (opening s ≡ good (blocks, after)) ↔ ((take (length marker) s ≡ marker)
     × (1 ≤ blocks) × (blocks ≤ mostBlocks) × (length s ≡ length marker + blocks * blockSize) × (after ≡ marker ++ randomized 0 (drop (length marker) s)))
 
+-- Why and where a burst is refused: it is too large; or it does not begin with the marker; or what is behind the marker is not 1 to 80 codeblocks.
+pub data BurstRefused (s : List ℕ) : ℕ → ℕ → Type 0 where
+  large : mostBytes < length s → BurstRefused s LARGE mostBytes
+  unmarked : length s ≤ mostBytes → (take (length marker) s ≡ marker → ⊥) → BurstRefused s MARKER 0
+  blocks : length s ≤ mostBytes → take (length marker) s ≡ marker → ((n : ℕ) → 1 ≤ n → n ≤ mostBlocks → length s ≡ length marker + n * blockSize → ⊥) → BurstRefused s BLOCKS (length s)
+
+-- Opening refuses a burst exactly so.
+abbrev pub OpeningRefused : Type 0
+OpeningRefused = (s : List ℕ) → Bytes s → (n p : ℕ) → (opening s ≡ bad n p) ↔ BurstRefused s n p
+
 -- ---- Demand 3: the copy talks about nothing but what was released.
 
 -- Equal released lists (or equal refusals in their place) give equal answers, counts, refusals and buffers, whatever else differs in recordings and sheets; and
@@ -277,7 +341,7 @@ pub record MeasuredFirst (recording sheet : List ℕ) : Type 0 where
   pub roomless : measurement recording sheet .number ≡ ROOM → ⊥
   pub enough : (buffer : List ℕ) → measurement recording sheet .bytes ≤ length buffer → copy recording sheet buffer .0 ≡ measurement recording sheet
   pub short : (buffer : List ℕ) → length buffer < measurement recording sheet .bytes
-      → copy recording sheet buffer .0 ≡ record { number = ROOM; place = measurement recording sheet .bytes; bytes = 0; messages = 0; packages = 0 }
+      → copy recording sheet buffer .0 ≡ refusal ROOM (measurement recording sheet .bytes)
   pub refused : (buffer : List ℕ) → (measurement recording sheet .number ≡ 0 → ⊥) → copy recording sheet buffer ≡ (measurement recording sheet, buffer)
   pub alike : (buffer : List ℕ) → (copy recording sheet buffer .0 .number ≡ ROOM → ⊥) → copy recording sheet buffer .0 ≡ measurement recording sheet
 
@@ -341,13 +405,13 @@ OneOutcome = (A B : Type 0) (told : A → B) → TellsApart told → (d : B) (a 
 pub record Claims : Type 1 where
   pub buffers : BuffersKept
   pub premises : PremisesMet × AcceptedValid × ReadValid
-  pub reading : SpotOfRecord × SpotExactly × CountsChecked × RefusalsExactly × OptionsExactly × CountExactly × PackageExactly × WalkExactly
-  pub writing : WrittenRead × ReadWritten × PartsWritten × WriterWrites
-  pub cleaning : CleanerWrites × CleanAlone × CleanTwice × CleanExactly
+  pub reading : SpotOfRecord × SpotExactly × HeaderRefused × CountsChecked × RefusalsExactly × OptionsExactly × CountExactly × PackageExactly × WalkExactly
+  pub writing : WrittenRead × ReadWritten × PartsWritten × WriterWrites × WriterRefuses
+  pub cleaning : CleanerWrites × CleanerRefuses × CleanAlone × CleanTwice × CleanExactly
   pub measuring : (recording sheet : List ℕ) → MeasuredFirst recording sheet
-  pub granting : GrantedExactly × WindowsExactly × ((ns : List ℕ) (ms : List Message) → AcquiredOnly ns ms) × ((rows : List Row) → ReleasedExactly rows)
+  pub granting : RowExactly × GrantedExactly × WindowsExactly × ((ns : List ℕ) (ms : List Message) → AcquiredOnly ns ms) × ((rows : List Row) → ReleasedExactly rows)
   pub copying : ((recordingBytes sheetBytes : List ℕ) (es : List Entry) (list : releasedOf recordingBytes sheetBytes ≡ good es) → CopyExactly recordingBytes sheetBytes es list) × SequenceCounted × CopyPlain × TwoSheets × RowAdded
-  pub bursts : RandomizerExactly × BurstExactly
+  pub bursts : RandomizerExactly × BurstExactly × OpeningRefused
   pub silence : ((recording recording′ sheet sheet′ : List ℕ) (same : releasedOf recording sheet ≡ releasedOf recording′ sheet′) → SameCopies recording recording′ sheet sheet′ same) × DifferentCopies
   pub outcomes : OneOutcome
   pub numbers : Table × Edges

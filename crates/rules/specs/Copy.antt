@@ -76,6 +76,10 @@ pub record Answer : Type 0 where
   pub messages : ℕ
   pub packages : ℕ
 
+-- an answer with nothing but a number and a place
+abbrev pub refusal : ℕ → ℕ → Answer
+refusal n p = record { number = n; place = p; bytes = 0; messages = 0; packages = 0 }
+
 -- the released list of a recording under a sheet, if both pass
 unfoldable pub releasedOf : List ℕ → List ℕ → Outcome (List Entry)
 releasedOf recordingBytes sheetBytes = do

@@ -10,7 +10,7 @@ use Rattle.rules.specs.Message.{Message, recording}
 use Rattle.rules.specs.Packages.{instant, packageTime}
 use Rattle.rules.specs.Reading.{header, optionRun}
 use Rattle.rules.specs.Sheet.{sheet}
-use Rattle.rules.specs.Copy.{Answer, copy}
+use Rattle.rules.specs.Copy.{refusal, copy}
 use Rattle.rules.specs.Burst.{sequenceByte}
 
 -- numbers of 32 bits as bytes
@@ -37,10 +37,6 @@ R = words (0x00000007 ∷ 0x00000007 ∷ 0x00000001 ∷ 0x00000001 ∷ 0x0000006
 
 abbrev pub Passes : List ℕ → Type 0
 Passes s = (ms : List Message) × (recording s ≡ good ms)
-
--- an answer with nothing but a number and a place
-abbrev pub refusal : ℕ → ℕ → Answer
-refusal n p = record { number = n; place = p; bytes = 0; messages = 0; packages = 0 }
 
 pub record Table : Type 0 where
   pub P1 : (buffer : List ℕ) → copy [] R buffer ≡ (refusal 0 0, buffer)
