@@ -2,14 +2,16 @@
 use Prim.Native.Nat.{ℕ}
 use mathlib.Core.Path.{_≡_, refl, ap, sym}
 use mathlib.Core.List.{List}
+use borrow.Author.Tests.{lt-ltb}
+use lib.ListN.{length}
 use Rattle.rules.specs.Outcome.{Outcome, good, bad, _>>=_}
 use Rattle.rules.specs.Buffer.{fitted}
 use Rattle.rules.specs.Claims.{TellsApart}
-use Rattle.rules.proofs.Outcomes.{good-inj, good≢bad, none≢some}
+use Rattle.rules.proofs.Outcomes.{halt, good-inj, good≢bad, none≢some}
 use Rattle.rules.proofs.Kept.{careful-stored, writes, roomless}
 use Rattle.refusal.proofs.Numbers.{refused-injective}
-use Rattle.radio.specs.Radio.{storedAt, tlvPut, tlvWriter, runWritten, radioWriter}
-use Rattle.radio.specs.Claims.{TlvWrittenRead, TlvReadWritten, RadioWrittenRead, RadioReadWritten, RadioCleanExactly, StepsShowAll, RadioPlace, RunPlace, RecordsPut, RecordsByRun, RunWrittenRead, PartsWritten, WriterWrites, RoomRefused, BuffersKept, RowExact, RowApart}
+use Rattle.radio.specs.Radio.{radio, storedAt, tlvPut, tlvWriter, runWritten, radioWriter}
+use Rattle.radio.specs.Claims.{TlvWrittenRead, TlvReadWritten, RadioWrittenRead, RadioReadWritten, RadioCleanExactly, StepsShowAll, RadioLarge, RadioPlace, RunPlace, RecordsPut, RecordsByRun, RunWrittenRead, PartsWritten, WriterWrites, RoomRefused, BuffersKept, RowExact, RowApart}
 use Rattle.radio.specs.Told.{toldRadio, toldTlv}
 use Rattle.radio.specs.Example.{Example}
 use Rattle.radio.specs.declared.Head.{Head}
@@ -40,6 +42,10 @@ radio-clean-exactly = messages.radio-exactly
 
 pub steps-show-all : StepsShowAll
 steps-show-all = messages.steps-show-all
+
+pub radio-large : RadioLarge
+unfolding radio
+radio-large s l = halt _ _ _ _ (lt-ltb 65536 (length s) l)
 
 pub radio-place : RadioPlace
 radio-place = places.radio-place

@@ -5,7 +5,7 @@ use mathlib.Core.Logic.{_↔_, _⊎_}
 use mathlib.Core.List.{List, _++_}
 use lib.ListN.{length, take, drop}
 use lib.Seq.{sets}
-use Rattle.rules.specs.Outcome.{good, bad, _>>_, ROOM}
+use Rattle.rules.specs.Outcome.{good, bad, _>>_, LARGE, ROOM}
 use Rattle.refusal.specs.Numbers.{RADIO}
 use Rattle.rules.specs.Bytes.{Bytes}
 use Rattle.rules.specs.Items.{All}
@@ -43,6 +43,10 @@ RadioCleanExactly = (s t : List ℕ) → Bytes s → Bytes t → (m l : Radio) �
 -- The steps from the header's end on show every TLV of a message, and then the end.
 abbrev pub StepsShowAll : Type 0
 StepsShowAll = (s : List ℕ) (m : Radio) → radio s ≡ good m → Steps s radioHeader (m .tlvs)
+
+-- A message above the limit is refused as LARGE, at the limit.
+abbrev pub RadioLarge : Type 0
+RadioLarge = (s : List ℕ) → mostBytes < length s → radio s ≡ bad LARGE mostBytes
 
 -- The place of RADIO, in both directions. A message within the limit is refused with RADIO alone: at 0 exactly if its header is against the rules, and
 -- behind a good header exactly at the first bad TLV, which is where the steps from the header's end on are refused.
