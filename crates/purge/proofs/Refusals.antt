@@ -10,7 +10,7 @@ use Rattle.rules.specs.Copy.{Entry, released, releasedOf, reported}
 use Rattle.purge.specs.Purge.{keptRecords, keptOf, purged, purge}
 
 abbrev Alike : Written → Outcome (List Entry) → Type 0
-Alike a o = (a .number ≡ reported o .number) × (a .place ≡ reported o .place)
+Alike a o = (a .number ≡ reported o .number) × (a .place ≡ reported o .place) × ((a .number ≡ 0 → ⊥) → a .bytes ≡ 0)
 
 pub alike : (buffer sheetBytes : List ℕ) → Alike (purge buffer sheetBytes .0) (releasedOf buffer sheetBytes)
 unfolding purge keptOf purged releasedOf reported _>>=_
@@ -19,6 +19,6 @@ alike buffer sheetBytes = go (sheet sheetBytes) (recording buffer)
     go : (r : Outcome (List Row)) (m : Outcome (List Message))
         → Alike (purged buffer (r >>= λ (rs : List Row). m >>= λ (ms : List Message). good (keptRecords rs ms)) .0)
         (r >>= λ (rs : List Row). m >>= λ (ms : List Message). good (released rs ms))
-    go (bad n p) m = (refl, refl)
-    go (good rs) (bad n p) = (refl, refl)
-    go (good rs) (good ms) = (refl, refl)
+    go (bad n p) m = (refl, refl, λ h. refl)
+    go (good rs) (bad n p) = (refl, refl, λ h. refl)
+    go (good rs) (good ms) = (refl, refl, λ h. absurd (h refl))

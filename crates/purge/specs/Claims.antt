@@ -25,9 +25,10 @@ use Rattle.purge.specs.Purge.{keptPackages, packageCount, countSet, with
 abbrev pub RefusedUnchanged : Type 0
 RefusedUnchanged = (buffer sheet : List ℕ) → (purge buffer sheet .0 .number ≡ 0 → ⊥) → purge buffer sheet .1 ≡ buffer
 
--- What is refused, and where, is what measuring the copy refuses: ROW, LARGE, then the message checks.
+-- What is refused, and where, is what measuring the copy refuses: ROW, LARGE, then the message checks. Nothing is then reported as used.
 abbrev pub RefusedAsMeasured : Type 0
 RefusedAsMeasured = (buffer sheet : List ℕ) → (purge buffer sheet .0 .number ≡ measurement buffer sheet .number) × (purge buffer sheet .0 .place ≡ measurement buffer sheet .place)
+    × ((purge buffer sheet .0 .number ≡ 0 → ⊥) → purge buffer sheet .0 .bytes ≡ 0)
 
 -- What is kept always has room in the buffer, whose length stays; ROOM never occurs.
 pub record NeverTooLong : Type 0 where
