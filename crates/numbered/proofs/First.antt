@@ -1,6 +1,6 @@
 -- With no id held and a quota above all, what is copied is the single copy, and what is measured is its measurement.
-use Prim.Native.Nat.{ℕ, zero, suc, _+_, _-_, _%_, _^_, _≤_, _<_}
-use mathlib.Core.Path.{_≡_, refl, ap, sym, _∙_}
+use Prim.Native.Nat.{ℕ, zero, suc, _-_, _/_, _%_, _^_, _≤_}
+use mathlib.Core.Path.{_≡_, refl, ap, ap₂, sym, _∙_}
 use mathlib.Core.Bool.{Bool, true, false}
 use mathlib.Core.Logic.{_↔_}
 use mathlib.Core.List.{List, [], _∷_, map}
@@ -11,7 +11,7 @@ use lib.ListN.{length}
 use lib.Seq.{sets}
 use Rattle.rules.specs.Outcome.{Outcome, good, bad, _>>=_, _∷>_, LARGE, ROOM}
 use Rattle.refusal.specs.Numbers.{IDS}
-use Rattle.rules.specs.Bytes.{join}
+use Rattle.rules.specs.Bytes.{put32, join}
 use Rattle.rules.specs.Items.{items, All, all-nil, count}
 use Rattle.rules.specs.Message.{Message, message, recording}
 use Rattle.rules.specs.Buffer.{fitted}
@@ -20,7 +20,6 @@ use Rattle.rules.specs.Sheet.{Row, sheet}
 use Rattle.rules.specs.Copy as rules
 use Rattle.rules.specs.Copy.{Entry, released, copyMessage, copyMessages, copyBytes, packagesIn, releasedOf, roomFor, filled, answered, measurement, copy}
 use Rattle.rules.proofs.Outcomes.{step, stop, pass, halt, after, stop-before, good≢bad}
-use Rattle.rules.proofs.Released.{count-le}
 use Rattle.numbered.specs.Numbering.{Running, nextNumber, countedOn, numberedMessages, numberedBytes, beside, State, runningIn}
 use Rattle.numbered.specs.Quota.{badIds, badState, someTwice, Taken, takenAt, firstItems, takenFrom, messageOf, idsFit, delivering, measuring, Report, reported, numberedCopy, settled, copyOf, asCopy}
 use Rattle.numbered.proofs.Numbers.{Low, low-counted, next-counted, count-cons}
@@ -62,24 +61,35 @@ pub all-refused : (q : ℕ) (s : List ℕ) {n p : ℕ} → length s ≤ q → (t
 unfolding takenFrom onMessages
 all-refused q s l = (λ e. sym (all-taken q 0 0 s l) ∙ ap onMessages e, λ e. on-bad _ (all-taken q 0 0 s l ∙ e))
 
--- ---- the numbers count the earlier entries
+-- ---- the numbers count the earlier entries, in the 32 bits that a message has for them
 
-numbered-copies : (ns : List Running) (seen : List ℕ) (es : List Entry) → All Low ns → ((x : ℕ) → nextNumber x ns ≡ count x seen) → length seen + length es < 2 ^ 32
-    → numberedMessages ns es ≡ copyMessages seen es
+-- of a sequence number no more is written
+low-put : (n : ℕ) (t : List ℕ) → put32 (n % 2 ^ 32) t ≡ put32 n t
+low-put n t =
+    let a : n % 2 ^ 32 / 16777216 % 256 ≡ n / 16777216 % 256 = omega arith in
+    let b : n % 2 ^ 32 / 65536 % 256 ≡ n / 65536 % 256 = omega arith in
+    let c : n % 2 ^ 32 / 256 % 256 ≡ n / 256 % 256 = omega arith in
+    let d : n % 2 ^ 32 % 256 ≡ n % 256 = omega arith in
+    rw (a, b, c, d)
+
+low-written : (n : ℕ) (e : Entry) → write (copyMessage (n % 2 ^ 32) e) ≡ write (copyMessage n e)
+unfolding write copyMessage
+low-written n e = rw (low-put n)
+
+numbered-copies : (ns : List Running) (seen : List ℕ) (es : List Entry) → All Low ns → ((x : ℕ) → nextNumber x ns ≡ count x seen % 2 ^ 32)
+    → map write (numberedMessages ns es) ≡ map write (copyMessages seen es)
 unfolding numberedMessages copyMessages
-numbered-copies ns seen [] low h l = refl
-numbered-copies ns seen (e ∷ es) low h l =
-    let more : (x : ℕ) → nextNumber x (countedOn (e .id) ns) ≡ count x (e .id ∷ seen) = λ x.
-    let c = count-cons x (e .id) seen in
-    let b = count-le x (e .id ∷ seen) in
-    let w : (nextNumber x ns + count x (e .id ∷ [])) % 2 ^ 32 ≡ nextNumber x ns + count x (e .id ∷ []) = omega (arith, h x, c, b) in
-    next-counted x (e .id) low ∙ omega (arith, w, h x, c) in
-    ap (λ (n : ℕ). copyMessage n e ∷ numberedMessages (countedOn (e .id) ns) es) (h (e .id))
-    ∙ ap (λ (ms : List Message). copyMessage (count (e .id) seen) e ∷ ms) (numbered-copies (countedOn (e .id) ns) (e .id ∷ seen) es (low-counted (e .id) low) more (omega arith))
+numbered-copies ns seen [] low h = refl
+numbered-copies ns seen (e ∷ es) low h =
+    let more : (x : ℕ) → nextNumber x (countedOn (e .id) ns) ≡ count x (e .id ∷ seen) % 2 ^ 32 = λ x.
+    next-counted x (e .id) low ∙ omega (arith, h x, count-cons x (e .id) seen) in
+    ap₂ (λ (b : List ℕ) (bs : List (List ℕ)). b ∷ bs)
+    (ap (λ (n : ℕ). write (copyMessage n e)) (h (e .id)) ∙ low-written (count (e .id) seen) e)
+    (numbered-copies (countedOn (e .id) ns) (e .id ∷ seen) es (low-counted (e .id) low) more)
 
-pub bytes-copied : (es : List Entry) → length es < 2 ^ 32 → numberedBytes [] es ≡ copyBytes es
+pub bytes-copied : (es : List Entry) → numberedBytes [] es ≡ copyBytes es
 unfolding numberedBytes copyBytes nextNumber count
-bytes-copied es l = ap (λ (ms : List Message). join (map write ms)) (numbered-copies [] [] es all-nil (λ x. refl) (omega arith))
+bytes-copied es = ap join (numbered-copies [] [] es all-nil (λ x. refl))
 
 -- ---- the whole copy
 
@@ -122,9 +132,7 @@ module _ (most : ℕ) (input sheetBytes : List ℕ) (quota : ℕ) (state : State
     list-is = step _ _ v (step _ _ (pass _ _ _ _ small messages-are) refl)
 
     bytes-are : numberedBytes (runningIn state) (released rows (map messageOf ts)) ≡ copyBytes (released rows (map messageOf ts))
-    bytes-are =
-        let f = few-released rows input quota (ltb-false 65536 (length input) small) t in
-        ap (λ (ns : List Running). numberedBytes ns (released rows (map messageOf ts))) (no-numbers state none) ∙ bytes-copied (released rows (map messageOf ts)) (omega arith)
+    bytes-are = ap (λ (ns : List Running). numberedBytes ns (released rows (map messageOf ts))) (no-numbers state none) ∙ bytes-copied (released rows (map messageOf ts))
 
   module _ (fit : (rows : List Row) (ts : List Taken) (p : ℕ) → sheet sheetBytes ≡ good rows → ltb 65536 (length input) ≡ false → takenFrom input quota ≡ good ts → idsFit most rows (runningIn state) ts ≡ bad IDS p → ⊥) where
     -- sheet and size pass

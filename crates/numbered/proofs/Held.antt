@@ -11,10 +11,11 @@ use lib.Dec.{eqb}
 use lib.ListN.{length, getD, take, drop, set, length-append, length-set, List·getD-append, length-map}
 use lib.Seq.{sets, sets-eq, length-sets, length-take-le, set-append-left, set-getD}
 use Rattle.rules.specs.Items.{count}
+use Rattle.rules.specs.Copy.{Entry}
 use Rattle.rules.proofs.Growing.{map-append}
 use Rattle.rules.proofs.Kept.{take-sets}
 use Rattle.rules.proofs.Loops.{sets-sets}
-use Rattle.numbered.specs.Numbering.{Running, nextNumber, countedOn, idOf, nextOf}
+use Rattle.numbered.specs.Numbering.{Running, nextNumber, countedOn, numbersAfter, idOf, nextOf}
 use Rattle.numbered.specs.Parts.{Place, heldWith, numberAt, Ready}
 use Rattle.numbered.proofs.Seeking.{count-append, count-same, count-other, count-some}
 use Rattle.numbered.proofs.Numbers.{next-hit, next-miss, counted-hit, counted-miss, count-cons}
@@ -94,6 +95,11 @@ module _ (x : ℕ) where
           let e = eqb-true y x t in
           omega (arith, count-append y (map idOf ns) (x ∷ []), count-same y x e, ap (λ (k : ℕ). count k (map idOf ns)) e)
       more z false t = omega (arith, count-append y (map idOf ns) (x ∷ []), count-other y x (eqb-false y x t), once y)
+
+pub once-after : (ns : List Running) (es : List Entry) → ((y : ℕ) → count y (map idOf ns) ≤ 1) → (y : ℕ) → count y (map idOf (numbersAfter ns es)) ≤ 1
+unfolding numbersAfter
+once-after ns [] once = once
+once-after ns (e ∷ es) once = once-after (countedOn (e .id) ns) es (once-counted (e .id) ns once)
 
 -- ---- a store among those of a run
 

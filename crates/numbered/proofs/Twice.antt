@@ -5,7 +5,7 @@ use mathlib.Core.Bool.{Bool, true, false, _||_}
 use mathlib.Core.List.{List, [], _∷_}
 use native.Mathlib.Numerals.{add-one}
 use native.Mathlib.Omega.{arith}
-use borrow.Author.Tests.{ltb-false, eqb-true, eqb-false}
+use borrow.Author.Tests.{ltb-false, le-ltb, eqb-true, eqb-false}
 use lib.Dec.{eqb, ltb}
 use lib.ListN.{length, getD, drop, drop-of-length-le}
 use lib.Seq.{drop-cons}
@@ -50,7 +50,7 @@ module _ (ids : List ℕ) (i : ℕ) where
     pub twice-next : ltb 0 (count (getD ids i 0) (drop (i + 1) ids)) ≡ false → someTwice (drop i ids) ≡ someTwice (drop (i + 1) ids)
     twice-next e = twice-is ∙ rw e
 
--- ---- where none does, each stands once at most
+-- ---- none does exactly if each stands once at most
 
 pub twice-once : (l : List ℕ) → someTwice l ≡ false → (x : ℕ) → count x l ≤ 1
 unfolding someTwice count
@@ -65,3 +65,10 @@ twice-once (y ∷ l) e x = go (eqb x y) refl (twice-once l (both .1) x)
         let z = eqb-true x y t in
         omega (arith, count-cons x y l, count-same x y z, ltb-false 0 (count y l) (both .0), ap (λ (k : ℕ). count k l) z)
     go false t h = omega (arith, count-cons x y l, count-other x y (eqb-false x y t), h)
+
+pub once-twice : (l : List ℕ) → ((x : ℕ) → count x l ≤ 1) → someTwice l ≡ false
+unfolding someTwice
+once-twice [] once = refl
+once-twice (y ∷ l) once =
+    rw (le-ltb 0 (count y l) (omega (arith, once y, count-cons y y l, count-same y y refl)))
+    (once-twice l (λ x. omega (arith, once x, count-cons x y l)))

@@ -14,15 +14,15 @@ use Rattle.numbered.specs.Numbering.{Running, numbersAfter, numberedMessages, n
 use Rattle.numbered.specs.Quota.{delivering, Report, numberedCopy}
 use Rattle.numbered.proofs.Numbers.{next-after, after-append, numbered-append, numbered-injective}
 use Rattle.numbered.proofs.First.{bytes-copied, no-numbers, first-copies}
-use Rattle.step.specs.Claims.{releasedOfAny, ReleasedAtAnyLength, StepKeeps, StepHandles, StepNotLonger, QuotaZero, NumbersTrue, SequenceCountedOn, StepIds, StepRoom, StepDone, StepRefuses, QuotaRefuses, FirstStepCopies, MeasuredStep, RunPasses, RunCopies, RunAsOne, RunRead, FirstRunCopies, SameOutputs, DifferentOutputs, WindowCut, RefusalFinal}
+use Rattle.step.specs.Claims.{releasedOfAny, ReleasedAtAnyLength, StepKeeps, StepHandles, StepNotLonger, QuotaZero, NumbersTrue, SequenceCountedOn, StepDone, StateKept, QuotaRefuses, StepRefusedExactly, FirstStepCopies, MeasuredStep, RunPasses, RunCopies, RunAsOne, RunRead, FirstRunCopies, SameOutputs, DifferentOutputs, WindowCut, RefusalFinal}
 use Rattle.step.proofs.Released.{at-any-length}
 use Rattle.step.proofs.States.{running-low}
-use Rattle.step.proofs.Steps.{done, nothing-else, unused-reported, careful-reported, handles}
-use Rattle.step.proofs.Ids.{ids-exactly, room-refused, room-enough, none-taken}
+use Rattle.step.proofs.Steps.{done, nothing-else, unused-reported, careful-reported, handles, fits-after, taken-after}
+use Rattle.step.proofs.Ids.{room-enough, none-taken}
 use Rattle.step.proofs.Runs as Runs
 use Rattle.step.proofs.Measured.{measured-room, measured-long}
 use Rattle.step.proofs.Windows.{cut-window}
-use Rattle.step.proofs.Refusals.{refuses, within-quota, of-quota}
+use Rattle.step.proofs.Refusals.{within-quota, refused-exactly}
 use Rattle.rules.proofs.Final.{final}
 use Rattle.step.specs.Table.{Table}
 use Rattle.step.proofs.Table.{table}
@@ -54,20 +54,19 @@ pub sequence-counted-on : SequenceCountedOn
 unfolding numbersAfter numberedMessages
 sequence-counted-on state fits before e behind = rw (numbered-append, after-append, next-after (e .id) before (running-low state fits))
 
-pub step-ids : StepIds
-step-ids input sheetBytes quota state buffer rows taken fits b v l t = ids-exactly input sheetBytes quota state buffer rows taken b v l t fits
-
-pub step-room : StepRoom
-step-room input sheetBytes quota state buffer rows taken fits b v l t = room-refused input sheetBytes quota state buffer rows taken b v l t
-
 pub step-done : StepDone
 step-done = room-enough
 
-pub step-refuses : (input sheetBytes : List ℕ) (quota : ℕ) (state : State) (buffer : List ℕ) → StepRefuses input sheetBytes quota state buffer
-step-refuses = refuses
+pub state-kept : StateKept
+state-kept input sheet quota state buffer fits e =
+    let d = done input sheet quota state buffer e in
+    (fits-after input sheet quota state buffer fits d, taken-after input sheet quota state buffer fits d)
 
-pub quota-refuses : QuotaRefuses
-quota-refuses input quota n p = (within-quota input quota n p, λ h. of-quota input quota n p (h .0) (h .1))
+pub quota-refuses : (input : List ℕ) (quota n p : ℕ) → QuotaRefuses input quota n p
+quota-refuses = within-quota
+
+pub step-refused-exactly : (input sheetBytes : List ℕ) (quota : ℕ) (state : State) (buffer : List ℕ) → StepRefusedExactly input sheetBytes quota state buffer
+step-refused-exactly = refused-exactly
 
 pub first-step-copies : FirstStepCopies
 first-step-copies input sheet quota state buffer none above not-ids = first-copies 64 input sheet quota state buffer none above not-ids
@@ -98,8 +97,8 @@ pub run-read : RunRead
 run-read sheetBytes state end all joined fits b run es list = Runs.run-read sheetBytes fits run es list b
 
 pub first-run-copies : FirstRunCopies
-first-run-copies sheetBytes state end all joined fits none run es list few =
-    Runs.run-copies sheetBytes fits run es list .0 ∙ ap (λ (ns : List Running). numberedBytes ns es) (no-numbers state none) ∙ bytes-copied es few
+first-run-copies sheetBytes state end all joined fits none run es list =
+    Runs.run-copies sheetBytes fits run es list .0 ∙ ap (λ (ns : List Running). numberedBytes ns es) (no-numbers state none) ∙ bytes-copied es
 
 pub same-outputs : SameOutputs
 same-outputs sheet sheet′ state end end′ all all′ joined joined′ fits run run′ same = go (releasedOfAny all sheet) refl

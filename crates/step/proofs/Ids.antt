@@ -1,24 +1,24 @@
--- Which steps are refused for their ids, and which do nothing.
+-- When ids are too many, which steps are done, and which do nothing.
 use Prim.Native.Nat.{ℕ, _≤_, _<_}
-use mathlib.Core.Path.{_≡_, refl, ap, sym, subst, _∙_}
+use mathlib.Core.Path.{_≡_, refl, ap, sym, _∙_}
 use mathlib.Core.Bool.{Bool, true, false}
 use mathlib.Core.List.{List, [], _∷_, _++_, map}
 use native.Mathlib.Omega.{arith}
-use borrow.Author.Tests.{ltb-true, ltb-false}
+use borrow.Author.Tests.{ltb-true, ltb-false, le-ltb, lt-ltb}
 use lib.Dec.{ltb}
 use lib.ListN.{length}
-use Rattle.rules.specs.Outcome.{Outcome, good, bad, ROOM}
+use Rattle.rules.specs.Outcome.{Outcome, good, bad}
 use Rattle.refusal.specs.Numbers.{IDS}
 use Rattle.rules.specs.Sheet.{Row, sheet}
 use Rattle.rules.specs.Copy.{Entry, released, packagesIn}
 use Rattle.rules.proofs.Outcomes.{pass, halt, good≢bad}
 use Rattle.numbered.specs.Numbering.{Running, numbersAfter, numberedMessages, numberedBytes, State, runningIn}
-use Rattle.numbered.specs.Quota.{badState, Taken, takenAt, firstItems, takenFrom, messageOf, bytesTaken, idsFit, Report, reported}
+use Rattle.numbered.specs.Quota.{badState, Taken, takenAt, firstItems, takenFrom, messageOf, bytesTaken, idsFit, reported}
 use Rattle.numbered.proofs.States.{good-few}
-use Rattle.numbered.proofs.Ids.{ids-none, ids-cons, ids-few, ids-good, refused-ids, refused-room, copy-done}
+use Rattle.numbered.proofs.Ids.{after-length, ids-none, ids-cons, ids-good, copy-done}
 use Rattle.step.specs.Step as spec
-use Rattle.step.specs.Claims.{StateFits, TooMany, IdsExactly, nothing}
-use Rattle.step.proofs.States.{running-length, holding-same}
+use Rattle.step.specs.Claims.{StateFits, TooMany, nothing}
+use Rattle.step.proofs.States.{holding-same}
 
 many-cons : (rows : List Row) (ns : List Running) (t : Taken) (ts : List Taken) (p : ℕ) → TooMany rows (numbersAfter ns (released rows (t .message ∷ []))) ts p → TooMany rows ns (t ∷ ts) p
 many-cons rows ns t ts p w = record {
@@ -47,6 +47,20 @@ ids-many rows ns (t ∷ ts) n p l e = go (ltb 64 (length after)) refl (λ m. ids
         let r = h (ltb-false _ _ b) (sym (pass _ _ _ _ b refl) ∙ e) in
         (r .0, many-cons rows ns t ts p (r .1))
 
+fits-not : (rows : List Row) (ns : List Running) (before : List Taken) (one : Taken) (behind : List Taken) → length (numbersAfter ns (released rows (map messageOf before))) ≤ 64
+    → 64 < length (numbersAfter ns (released rows (map messageOf (before ++ one ∷ [])))) → idsFit 64 rows ns (before ++ one ∷ behind) ≡ bad IDS (one .place)
+unfolding idsFit
+fits-not rows ns [] one behind few many = halt _ _ _ _ (lt-ltb 64 (length (numbersAfter ns (released rows (one .message ∷ [])))) many)
+fits-not rows ns (t ∷ before) one behind few many =
+    let after = numbersAfter ns (released rows (t .message ∷ [])) in
+    let h : length (numbersAfter after (released rows (map messageOf before))) ≤ 64 = rw (ids-cons rows ns t before) at few in
+    pass _ _ _ _ (le-ltb 64 (length after) (omega (arith, h, after-length after (released rows (map messageOf before)) .least)))
+    (fits-not rows after before one behind h (rw (ids-cons rows ns t (before ++ one ∷ [])) at many))
+
+pub many-ids : (rows : List Row) (ns : List Running) (ts : List Taken) (p : ℕ) → TooMany rows ns ts p → idsFit 64 rows ns ts ≡ bad IDS p
+many-ids rows ns ts p w =
+    ap (idsFit 64 rows ns) (w .taken-are) ∙ fits-not rows ns (w .before) (w .one) (w .behind) (w .few) (w .many) ∙ ap (λ (k : ℕ). bad IDS k) (w .is)
+
 -- ---- steps whose state, sheet, size and messages pass
 
 module _ (input sheetBytes : List ℕ) (quota : ℕ) (state : State) (buffer : List ℕ) (rows : List Row) (taken : List Taken)
@@ -60,41 +74,10 @@ module _ (input sheetBytes : List ℕ) (quota : ℕ) (state : State) (buffer : L
   abbrev bytes : List ℕ
   bytes = numberedBytes ns es
 
-  module _ (ids : idsFit 64 rows ns taken ≡ good tt) where
-    not-ids : (b : Bool) → ltb (length buffer) (length bytes) ≡ b → spec.step input sheetBytes quota state buffer .0 .number ≡ IDS → ⊥
-    unfolding reported
-    not-ids true r e =
-        let z : ROOM ≡ IDS = sym (ap (λ (a : _). a .0 .number) (refused-room 64 input sheetBytes quota state buffer rows taken good-state valid short read ids (ltb-true _ _ r))) ∙ e in
-        omega arith
-    not-ids false r e =
-        let z : 0 ≡ IDS = sym (ap (λ (a : _). a .0 .number) (copy-done 64 input sheetBytes quota state buffer rows taken good-state valid short read ids (ltb-false _ _ r))) ∙ e in
-        omega arith
-
-  pub room-refused : length (numbersAfter ns es) ≤ 64 → length buffer < length bytes → spec.step input sheetBytes quota state buffer ≡ (nothing ROOM (length bytes), state, buffer)
-  unfolding reported
-  room-refused few l = refused-room 64 input sheetBytes quota state buffer rows taken good-state valid short read (ids-good 64 rows ns taken few) l
-
   pub room-enough : length (numbersAfter ns es) ≤ 64 → length bytes ≤ length buffer
-      → (spec.step input sheetBytes quota state buffer .0 .number ≡ 0) × (spec.step input sheetBytes quota state buffer .0 .handled ≡ length taken) × (spec.step input sheetBytes quota state buffer .0 .consumed ≡ bytesTaken taken)
+      → (spec.step input sheetBytes quota state buffer .0 .number ≡ 0) × (spec.step input sheetBytes quota state buffer .0 .place ≡ 0) × (spec.step input sheetBytes quota state buffer .0 .handled ≡ length taken) × (spec.step input sheetBytes quota state buffer .0 .consumed ≡ bytesTaken taken)
   unfolding reported
-  room-enough few l = rw (copy-done 64 input sheetBytes quota state buffer rows taken good-state valid short read (ids-good 64 rows ns taken few) l) (refl, refl, refl)
-
-  pub ids-exactly : StateFits state → IdsExactly input sheetBytes quota state buffer rows taken
-  unfolding reported
-  ids-exactly fits = record { refused = λ h. refuses (idsFit 64 rows ns taken) refl h; place = λ h. places (idsFit 64 rows ns taken) refl h }
-    where
-      few : length ns ≤ 64
-      few =
-          let h = good-few 64 (state .ids) (state .held) good-state in
-          omega (arith, running-length state fits h, h)
-
-      refuses : (o : Outcome (Unit {0})) → idsFit 64 rows ns taken ≡ o → 64 < length (numbersAfter ns es) → spec.step input sheetBytes quota state buffer .0 .number ≡ IDS
-      refuses (good tt) i h = absurd (omega (arith, ids-few 64 rows ns taken few i))
-      refuses (bad n p) i h = ap (λ (a : _). a .0 .number) (refused-ids 64 input sheetBytes quota state buffer rows taken good-state valid short read n p i) ∙ ids-many rows ns taken n p few i .0
-
-      places : (o : Outcome (Unit {0})) → idsFit 64 rows ns taken ≡ o → spec.step input sheetBytes quota state buffer .0 .number ≡ IDS → TooMany rows ns taken (spec.step input sheetBytes quota state buffer .0 .place)
-      places (good tt) i h = absurd (not-ids i (ltb (length buffer) (length bytes)) refl h)
-      places (bad n p) i h = subst (λ (a : Report × State × List ℕ). TooMany rows ns taken (a .0 .place)) (sym (refused-ids 64 input sheetBytes quota state buffer rows taken good-state valid short read n p i)) (ids-many rows ns taken n p few i .1)
+  room-enough few l = rw (copy-done 64 input sheetBytes quota state buffer rows taken good-state valid short read (ids-good 64 rows ns taken few) l) (refl, refl, refl, refl)
 
 -- ---- quota 0
 

@@ -6,7 +6,7 @@ use mathlib.Core.List.{List, map}
 use native.Mathlib.Omega.{arith}
 use borrow.Author.Tests.{ltb-true, ltb-false}
 use lib.Dec.{ltb}
-use lib.ListN.{length, take, replicate, length-take, length-replicate, length-map}
+use lib.ListN.{length, replicate, length-replicate, length-map}
 use lib.Seq.{sets}
 use Rattle.rules.specs.Outcome.{Outcome, good, bad, ROOM}
 use Rattle.rules.specs.Bytes.{Bytes}
@@ -15,17 +15,13 @@ use Rattle.rules.specs.Copy.{Entry, released, packagesIn}
 use Rattle.rules.proofs.Outcomes.{pass, halt, step, stop}
 use Rattle.numbered.specs.Numbering.{numbersAfter, numberedBytes, State, runningIn, idOf, holding}
 use Rattle.numbered.specs.Quota.{badState, Taken, takenFrom, messageOf, bytesTaken, idsFit, delivering, Report, reported, numberedCopy, measuredIds, atZero}
-use Rattle.numbered.proofs.States.{beside-ids}
 use Rattle.numbered.proofs.Ids.{ids-same, after-same, refused-ids, refused-room, copy-done}
 use Rattle.numbered.proofs.Entries.{bytes-length}
 use Rattle.step.specs.Step as spec
 use Rattle.step.specs.Claims.{StateFits, SameIds}
+use Rattle.step.proofs.States.{running-ids}
 use Rattle.step.proofs.Steps.{done, handles}
 use Rattle.step.proofs.Runs.{not-longer}
-
--- the ids of a state's running numbers
-running-ids : (state : State) → length (state .ids) ≡ length (state .next) → map idOf (runningIn state) ≡ take (state .held) (state .ids)
-running-ids state l = beside-ids (take (state .held) (state .ids)) (take (state .held) (state .next)) (omega (arith, l, length-take (state .held) (state .ids), length-take (state .held) (state .next)))
 
 -- reports that are the same, and ids
 abbrev Alike : Report × State × List ℕ → Report × State × List ℕ → Type 0

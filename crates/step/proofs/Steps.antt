@@ -8,6 +8,7 @@ use borrow.Author.Tests.{ltb-false}
 use lib.ListN.{length, getD, take, set, length-map}
 use lib.Seq.{sets, getD-set-other}
 use Rattle.rules.specs.Outcome.{Outcome, good, bad}
+use Rattle.rules.specs.Items.{count}
 use Rattle.rules.specs.Message.{message}
 use Rattle.rules.specs.Buffer.{fitted}
 use Rattle.rules.specs.Sheet.{Row, sheet}
@@ -21,11 +22,13 @@ use Rattle.numbered.specs.Quota.{badState, Taken, takenAt, firstItems, takenFro
 use Rattle.numbered.proofs.Messages.{First, first-taken}
 use Rattle.numbered.proofs.Numbers.{low-after}
 use Rattle.numbered.proofs.Ids.{ids-few}
-use Rattle.numbered.proofs.States.{good-few}
+use Rattle.numbered.proofs.States.{good-few, good-single}
+use Rattle.numbered.proofs.Twice.{twice-once}
+use Rattle.numbered.proofs.Held.{once-after}
 use Rattle.step.specs.Step as spec
 use Rattle.step.specs.Step.{output}
 use Rattle.step.specs.Claims.{StateFits, releasedOfAny, nothing, Handles}
-use Rattle.step.proofs.States.{running-low, running-length, running-holding, fits-holding}
+use Rattle.step.proofs.States.{running-low, running-length, running-ids, running-holding, fits-holding, good-holding}
 
 -- ---- no refusal has number 0
 
@@ -41,7 +44,7 @@ unfolding idsFit
 numbered-ids rows ns [] = gives-good
 numbered-ids rows ns (t ∷ ts) = gives-check _ _ _ (omega arith) (numbered-ids rows (numbersAfter ns (released rows (t .message ∷ []))) ts)
 
-numbered-step : (input sheetBytes : List ℕ) (quota : ℕ) (state : State) (buffer : List ℕ) → Gives Numbered (delivering 64 input sheetBytes quota state buffer)
+pub numbered-step : (input sheetBytes : List ℕ) (quota : ℕ) (state : State) (buffer : List ℕ) → Gives Numbered (delivering 64 input sheetBytes quota state buffer)
 unfolding delivering takenFrom fitted
 numbered-step input sheetBytes quota state buffer =
     gives-check _ _ _ (omega arith) (gives-step (numbered-sheet sheetBytes) (λ rows. gives-check _ _ _ (omega arith)
@@ -178,3 +181,9 @@ module _ (input sheetBytes : List ℕ) (quota : ℕ) (state : State) (buffer : L
 
   pub fits-after : StateFits (spec.step input sheetBytes quota state buffer .1)
   fits-after = subst StateFits (sym state-after) (fits-holding state fits numbers numbers-few (low-after entries (running-low state fits)))
+
+  -- the next step takes the state
+  pub taken-after : badState 64 (spec.step input sheetBytes quota state buffer .1) ≡ false
+  taken-after =
+      let once : (y : ℕ) → count y (map idOf (runningIn state)) ≤ 1 = λ y. rw (running-ids state (fits .ids ∙ sym (fits .next))) (twice-once (take (state .held) (state .ids)) (good-single 64 (state .ids) (state .held) (d .good-state)) y) in
+      subst (λ (s : State). badState 64 s ≡ false) (sym state-after) (good-holding state fits numbers numbers-few (once-after (runningIn state) entries once))

@@ -12,7 +12,7 @@ use Rattle.rules.specs.Items.{items, count}
 use Rattle.rules.specs.Message.{mostBytes, Message, message}
 use Rattle.rules.specs.Sheet.{Row, sheet}
 use Rattle.rules.specs.Copy.{Entry, released, copyMessage, copyBytes, packagesIn, releasedOf, copy}
-use Rattle.rules.specs.Claims.{Careful}
+use Rattle.rules.specs.Claims.{Careful, BadSheet}
 use Rattle.numbered.specs.Numbering.{Running, nextNumber, numbersAfter, numberedMessages, numberedBytes, State, runningIn}
 use Rattle.numbered.specs.Quota.{mostIds, badState, Taken, takenFrom, messageOf, bytesTaken, Report, asCopy}
 use Rattle.step.specs.Step.{step, measuredStep, output, consumed}
@@ -93,14 +93,42 @@ abbrev pub NumbersTrue : Type 0
 NumbersTrue = (state : State) → StateFits state → (es : List Entry) (x : ℕ)
     → nextNumber x (numbersAfter (runningIn state) es) ≡ (nextNumber x (runningIn state) + count x (map (λ (e : Entry). e .id) es)) % 2 ^ 32
 
--- The sequence number of an entry's message is the next number of its id and one more for each of the entries before it with that id, modulo 2^32.
+-- The sequence number of an entry's message is the number that the state has next for its id (0 where it is not held), and one more for each of the entries
+-- before it with that id, modulo 2^32.
 -- The entries behind it are numbered on.
 abbrev pub SequenceCountedOn : Type 0
 SequenceCountedOn = (state : State) → StateFits state → (before : List Entry) (e : Entry) (behind : List Entry) → numberedMessages (runningIn state) (before ++ e ∷ behind)
     ≡ numberedMessages (runningIn state) before ++ copyMessage ((nextNumber (e .id) (runningIn state) + count (e .id) (map (λ (x : Entry). x .id) before)) % 2 ^ 32) e
     ∷ numberedMessages (numbersAfter (runningIn state) (before ++ e ∷ [])) behind
 
--- Where state, sheet, size and messages pass, IDS is given exactly if the state could not hold all ids, and the place is the message with which they become too many.
+-- With room the step is done, with number and place 0: it handles the messages that are taken, and consumes their bytes.
+abbrev pub StepDone : Type 0
+StepDone = (input sheetBytes : List ℕ) (quota : ℕ) (state : State) (buffer : List ℕ) (rows : List Row) (taken : List Taken)
+    → badState mostIds state ≡ false → sheet sheetBytes ≡ good rows → length input ≤ mostBytes → takenFrom input quota ≡ good taken
+    → length (numbersAfter (runningIn state) (released rows (map messageOf taken))) ≤ mostIds
+    → length (numberedBytes (runningIn state) (released rows (map messageOf taken))) ≤ length buffer
+    → (step input sheetBytes quota state buffer .0 .number ≡ 0) × (step input sheetBytes quota state buffer .0 .place ≡ 0) × (step input sheetBytes quota state buffer .0 .handled ≡ length taken) × (step input sheetBytes quota state buffer .0 .consumed ≡ bytesTaken taken)
+
+-- The state handed back by a step that succeeds is one that the next step takes.
+abbrev pub StateKept : Type 0
+StateKept = (input sheet : List ℕ) (quota : ℕ) (state : State) (buffer : List ℕ) → StateFits state → step input sheet quota state buffer .0 .number ≡ 0
+    → StateFits (step input sheet quota state buffer .1) × (badState mostIds (step input sheet quota state buffer .1) ≡ false)
+
+-- Behind messages that pass, fewer than the quota, the next one does not.
+pub record RefusedWithin (input : List ℕ) (quota n p : ℕ) : Type 0 where
+  pub place : ℕ
+  pub before : List Message
+  pub read : items message zero zero (take place input) ≡ good before
+  pub few : length before < quota
+  pub inside : place < length input
+  pub refused : message place (drop place input) ≡ bad n p
+
+-- The messages within a quota are refused exactly so, and then as all messages of the input are.
+pub record QuotaRefuses (input : List ℕ) (quota n p : ℕ) : Type 0 where
+  pub exactly : (takenFrom input quota ≡ bad n p) ↔ RefusedWithin input quota n p
+  pub as-all : takenFrom input quota ≡ bad n p → items message zero zero input ≡ bad n p
+
+-- Of the messages taken, `one` at this place is the one with which more ids are delivered than a state can hold.
 pub record TooMany (rows : List Row) (ns : List Running) (taken : List Taken) (place : ℕ) : Type 0 where
   pub before : List Taken
   pub one : Taken
@@ -110,52 +138,31 @@ pub record TooMany (rows : List Row) (ns : List Running) (taken : List Taken) (p
   pub few : length (numbersAfter ns (released rows (map messageOf before))) ≤ mostIds
   pub many : mostIds < length (numbersAfter ns (released rows (map messageOf (before ++ one ∷ []))))
 
-pub record IdsExactly (input sheetBytes : List ℕ) (quota : ℕ) (state : State) (buffer : List ℕ) (rows : List Row) (taken : List Taken) : Type 0 where
-  pub refused : mostIds < length (numbersAfter (runningIn state) (released rows (map messageOf taken))) → step input sheetBytes quota state buffer .0 .number ≡ IDS
-  pub place : step input sheetBytes quota state buffer .0 .number ≡ IDS → TooMany rows (runningIn state) taken (step input sheetBytes quota state buffer .0 .place)
+-- what a step looks at before the messages: the state, the sheet and the size pass
+pub record BeforeMessages (input sheetBytes : List ℕ) (state : State) (rows : List Row) : Type 0 where
+  pub state-passes : badState mostIds state ≡ false
+  pub sheet-passes : sheet sheetBytes ≡ good rows
+  pub size-passes : length input ≤ mostBytes
 
-abbrev pub StepIds : Type 0
-StepIds = (input sheetBytes : List ℕ) (quota : ℕ) (state : State) (buffer : List ℕ) (rows : List Row) (taken : List Taken) → StateFits state
-    → badState mostIds state ≡ false → sheet sheetBytes ≡ good rows → length input ≤ mostBytes → takenFrom input quota ≡ good taken → IdsExactly input sheetBytes quota state buffer rows taken
+-- Why and where a step is refused, each where what is looked at before it passes: the state, the sheet, the size, a message within the quota, a 65th id, and room
+-- for what would be written.
+pub data StepRefused (input sheetBytes : List ℕ) (quota : ℕ) (state : State) (buffer : List ℕ) : ℕ → ℕ → Type 0 where
+  bad-state : badState mostIds state ≡ true → StepRefused input sheetBytes quota state buffer IDS 0
+  bad-sheet : {n p : ℕ} → badState mostIds state ≡ false → BadSheet sheetBytes n p → StepRefused input sheetBytes quota state buffer n p
+  large : {rows : List Row} → badState mostIds state ≡ false → sheet sheetBytes ≡ good rows → mostBytes < length input → StepRefused input sheetBytes quota state buffer LARGE mostBytes
+  bad-message : {rows : List Row} {n p : ℕ} → BeforeMessages input sheetBytes state rows → RefusedWithin input quota n p → StepRefused input sheetBytes quota state buffer n p
+  too-many : {rows : List Row} {taken : List Taken} {p : ℕ} → BeforeMessages input sheetBytes state rows → takenFrom input quota ≡ good taken
+      → TooMany rows (runningIn state) taken p → StepRefused input sheetBytes quota state buffer IDS p
+  no-room : {rows : List Row} {taken : List Taken} → BeforeMessages input sheetBytes state rows → takenFrom input quota ≡ good taken
+      → length (numbersAfter (runningIn state) (released rows (map messageOf taken))) ≤ mostIds
+      → length buffer < length (numberedBytes (runningIn state) (released rows (map messageOf taken)))
+      → StepRefused input sheetBytes quota state buffer ROOM (length (numberedBytes (runningIn state) (released rows (map messageOf taken))))
 
--- Without room the step is refused: ROOM, with the bytes needed as place.
-abbrev pub StepRoom : Type 0
-StepRoom = (input sheetBytes : List ℕ) (quota : ℕ) (state : State) (buffer : List ℕ) (rows : List Row) (taken : List Taken) → StateFits state
-    → badState mostIds state ≡ false → sheet sheetBytes ≡ good rows → length input ≤ mostBytes → takenFrom input quota ≡ good taken
-    → length (numbersAfter (runningIn state) (released rows (map messageOf taken))) ≤ mostIds
-    → length buffer < length (numberedBytes (runningIn state) (released rows (map messageOf taken)))
-    → step input sheetBytes quota state buffer ≡ (nothing ROOM (length (numberedBytes (runningIn state) (released rows (map messageOf taken)))), state, buffer)
-
--- With room the step is done: it handles the messages that are taken, and consumes their bytes.
-abbrev pub StepDone : Type 0
-StepDone = (input sheetBytes : List ℕ) (quota : ℕ) (state : State) (buffer : List ℕ) (rows : List Row) (taken : List Taken)
-    → badState mostIds state ≡ false → sheet sheetBytes ≡ good rows → length input ≤ mostBytes → takenFrom input quota ≡ good taken
-    → length (numbersAfter (runningIn state) (released rows (map messageOf taken))) ≤ mostIds
-    → length (numberedBytes (runningIn state) (released rows (map messageOf taken))) ≤ length buffer
-    → (step input sheetBytes quota state buffer .0 .number ≡ 0) × (step input sheetBytes quota state buffer .0 .handled ≡ length taken) × (step input sheetBytes quota state buffer .0 .consumed ≡ bytesTaken taken)
-
--- The refusals that come before a 65th id and ROOM, in their order, each where what is looked at before it passes: the state, the sheet, the size, the messages within the quota.
--- With any refusal nothing but number and place is reported, and state and buffer stay.
-pub record StepRefuses (input sheetBytes : List ℕ) (quota : ℕ) (state : State) (buffer : List ℕ) : Type 0 where
-  pub bad-state : badState mostIds state ≡ true → step input sheetBytes quota state buffer ≡ (nothing IDS 0, state, buffer)
-  pub bad-sheet : (n p : ℕ) → badState mostIds state ≡ false → sheet sheetBytes ≡ bad n p → step input sheetBytes quota state buffer ≡ (nothing n p, state, buffer)
-  pub large : (rows : List Row) → badState mostIds state ≡ false → sheet sheetBytes ≡ good rows → mostBytes < length input
-      → step input sheetBytes quota state buffer ≡ (nothing LARGE mostBytes, state, buffer)
-  pub bad-message : (rows : List Row) (n p : ℕ) → badState mostIds state ≡ false → sheet sheetBytes ≡ good rows → length input ≤ mostBytes → takenFrom input quota ≡ bad n p
-      → step input sheetBytes quota state buffer ≡ (nothing n p, state, buffer)
+-- A step is refused exactly so; and with any refusal nothing but number and place is reported, and state and buffer stay.
+pub record StepRefusedExactly (input sheetBytes : List ℕ) (quota : ℕ) (state : State) (buffer : List ℕ) : Type 0 where
+  pub exactly : (n p : ℕ) → ((n ≡ 0 → ⊥) × (step input sheetBytes quota state buffer ≡ (nothing n p, state, buffer))) ↔ StepRefused input sheetBytes quota state buffer n p
   pub any : (step input sheetBytes quota state buffer .0 .number ≡ 0 → ⊥)
       → step input sheetBytes quota state buffer ≡ (nothing (step input sheetBytes quota state buffer .0 .number) (step input sheetBytes quota state buffer .0 .place), state, buffer)
-
--- The messages within a quota are refused exactly as all messages of the input are, where fewer messages than the quota stand before the one that is refused.
-pub record RefusedWithin (input : List ℕ) (quota n p : ℕ) : Type 0 where
-  pub place : ℕ
-  pub before : List Message
-  pub read : items message zero zero (take place input) ≡ good before
-  pub few : length before < quota
-  pub refused : message place (drop place input) ≡ bad n p
-
-abbrev pub QuotaRefuses : Type 0
-QuotaRefuses = (input : List ℕ) (quota n p : ℕ) → (takenFrom input quota ≡ bad n p) ↔ ((items message zero zero input ≡ bad n p) × RefusedWithin input quota n p)
 
 -- With no id held and a quota above all, a step is the single copy, refusals included, unless the ids are too many.
 abbrev pub FirstStepCopies : Type 0
@@ -209,10 +216,10 @@ abbrev pub RunRead : Type 0
 RunRead = (sheetBytes : List ℕ) (state end : State) (all joined : List ℕ) → StateFits state → Bytes all → Run sheetBytes state end all joined
     → (es : List Entry) → releasedOfAny all sheetBytes ≡ good es → items message zero zero joined ≡ good (numberedMessages (runningIn state) es)
 
--- From a state with no id held the joined outputs are the copy itself, byte for byte, as long as fewer entries are released than there are sequence numbers.
+-- From a state with no id held the joined outputs are the copy itself, byte for byte: in both a sequence number has 32 bits.
 abbrev pub FirstRunCopies : Type 0
 FirstRunCopies = (sheetBytes : List ℕ) (state end : State) (all joined : List ℕ) → StateFits state → state .held ≡ 0 → Run sheetBytes state end all joined
-    → (es : List Entry) → releasedOfAny all sheetBytes ≡ good es → length es < 2 ^ 32 → joined ≡ copyBytes es
+    → (es : List Entry) → releasedOfAny all sheetBytes ≡ good es → joined ≡ copyBytes es
 
 -- ---- Demand 3, of the joined outputs of two such runs from one first state, at any length.
 
