@@ -20,13 +20,12 @@ use Rattle.capture.specs.Twins.{twin}
 use Rattle.capture.specs.Frame.{frameOf}
 use Rattle.capture.specs.Reading.{Taken, takenOf, taken, recordingOf, ReadAnswer, roomForTaken, readCapture}
 use Rattle.capture.specs.Writing.{packetOf, datagrams, fileOf, roomForFile, WriteAnswer, writeCapture}
-use Rattle.capture.specs.Claims.{Fits, FileRead, FileOnly, OrdersAlike, TwinsAlike, TwinIs, readAnswer, ReadWrites, CountsAddUp, RecordingValid, ReadNotLonger, TakenInOrder, one, TakenExactly, PortBehind, WriteWrites, OneEach, FileLength, ChecksumRight, TimeDown, LargePlace, WrittenRead, OtherPort, BuffersKept, RoomRefused, ReadRefusedExactly, WriteRefusedExactly}
+use Rattle.capture.specs.Claims.{Fits, FileRead, FileOnly, OrdersAlike, TwinsAlike, TwinIs, readAnswer, ReadWrites, CountsAddUp, RecordingValid, ReadNotLonger, TakenInOrder, one, TakenExactly, PortBehind, WriteWrites, OneEach, FileLength, ChecksumRight, TimeDown, WrittenRead, OtherPort, BuffersKept, RoomRefused, ReadRefusedExactly, WriteRefusedExactly}
 use Rattle.capture.proofs.Frames.{checksum-right}
 use Rattle.capture.proofs.Orders.{record-length, file-length, packets-again}
 use Rattle.capture.proofs.Counting.{adds-up, in-order}
 use Rattle.capture.proofs.Recorded as Recorded
 use Rattle.capture.proofs.Classes as Classes
-use Rattle.capture.proofs.Larges as Larges
 use Rattle.capture.proofs.Only as Only
 use Rattle.capture.proofs.Refusals as Refusals
 use Rattle.capture.proofs.Turning as Turning
@@ -131,9 +130,6 @@ checksum-is-right port c l = checksum-right (length c) l
 pub time-down : TimeDown
 unfolding packetOf
 time-down port m c = (refl, omega arith, omega arith)
-
-pub large-place : LargePlace
-large-place = Larges.large-place
 
 -- ---- written and read again
 

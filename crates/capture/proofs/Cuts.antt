@@ -18,7 +18,7 @@ use Rattle.rules.proofs.Numbers.{word-append, half-append, bytes-tail, bytes-dr
 use Rattle.rules.proofs.Walk.{items-next}
 use Rattle.rules.proofs.Loops.{drop-pred}
 use Rattle.capture.specs.File.{Order, big, little, halfIn, wordIn, headerGood, orderOf, Packet, packet, packets, recordIn, fileIn}
-use Rattle.capture.specs.Claims.{Fits, FileOf, Unreadable, large, header, cut}
+use Rattle.capture.specs.Claims.{Fits, FileOf, FileRefused, large, header, cut}
 use Rattle.capture.proofs.Orders.{word-behind, record-length, packet-again, cut-refused, behind-header, file-length, good-order}
 use Rattle.capture.proofs.Only.{Back, read-back, order-good, header-long, file-of}
 
@@ -114,7 +114,7 @@ order-before s t l = ap₂ (λ (a b : Bool). elim a [ true ↦ good big | false 
 
 -- ---- files
 
-headless : (file : List ℕ) {n p : ℕ} → length file ≤ 65536 → orderOf file ≡ bad n p → Unreadable file n p
+headless : (file : List ℕ) {n p : ℕ} → length file ≤ 65536 → orderOf file ≡ bad n p → FileRefused file n p
 unfolding orderOf
 headless file {n} {p} l e = go (headerGood big file) refl (headerGood little file) refl
   where
@@ -122,13 +122,13 @@ headless file {n} {p} l e = go (headerGood big file) refl (headerGood little fil
     neither x y big = x
     neither x y little = y
 
-    go : (a : Bool) → headerGood big file ≡ a → (b : Bool) → headerGood little file ≡ b → Unreadable file n p
+    go : (a : Bool) → headerGood big file ≡ a → (b : Bool) → headerGood little file ≡ b → FileRefused file n p
     go true x b y = let w : _≡_ {A = Outcome Order} (good big) (bad n p) = rw (x, orderOf) at e in absurd (good≢bad (sym w))
     go false x true y = let w : _≡_ {A = Outcome Order} (good little) (bad n p) = rw (x, y, orderOf) at e in absurd (good≢bad (sym w))
     go false x false y =
         let w : _≡_ {A = Outcome Order} (bad CAPTURE 0) (bad n p) = rw (x, y, orderOf) at e in
         let (a, b) = bad-inj w in
-        subst (λ (k : ℕ). Unreadable file k p) a (subst (Unreadable file CAPTURE) b (header l (neither x y)))
+        subst (λ (k : ℕ). FileRefused file k p) a (subst (FileRefused file CAPTURE) b (header l (neither x y)))
 
 module _ (file : List ℕ) (b : Bytes file) (l : length file ≤ 65536) (o : Order) (g : headerGood o file ≡ true) {n p : ℕ} (w : Cut o 24 (drop 24 file) n p) where
   abbrev records : List ℕ
@@ -152,18 +152,18 @@ module _ (file : List ℕ) (b : Bytes file) (l : length file ≤ 65536) (o : Ord
       sym (header-before o (take p file) (drop p file) (omega (arith, length-take-le p file (omega (arith, long, w .place)), w .place)))
       ∙ ap (headerGood o) (take-append-drop p file) ∙ g
 
-  cut-file : Unreadable file n p
+  cut-file : FileRefused file n p
   unfolding file-of
   cut-file =
       let e : wordIn o file (p + 8) ≡ wordIn o (w .rest) 8 = sym (word-behind o p 8 file) ∙ ap (λ (t : List ℕ). wordIn o t 8) back in
-      subst (λ (k : ℕ). Unreadable file k p) (sym (w .number))
+      subst (λ (k : ℕ). FileRefused file k p) (sym (w .number))
       (cut l (file-of o (take p file) (w .before) (bytes-take p file b) before-good (w .fit) records-are) (omega (arith, long, w .place, w .some)) (omega (arith, long, w .place, w .short, e)))
 
-pub refused-why : (file : List ℕ) (n p : ℕ) → Bytes file → packets file ≡ bad n p → Unreadable file n p
+pub refused-why : (file : List ℕ) (n p : ℕ) → Bytes file → packets file ≡ bad n p → FileRefused file n p
 unfolding packets
 refused-why file n p b e =
     ⊎-elim
-    (λ z. subst (λ (k : ℕ). Unreadable file k p) (z .1) (subst (Unreadable file _) (z .2) (large (ltb-true _ _ (z .0)))))
+    (λ z. subst (λ (k : ℕ). FileRefused file k p) (z .1) (subst (FileRefused file _) (z .2) (large (ltb-true _ _ (z .0)))))
     (λ z.
     let l = ltb-false _ _ (z .0) in
     ⊎-elim (headless file l) (λ y. cut-file file b l (y .0) (order-good file (y .0) (y .1)) (cut-off (y .0) 0 24 (drop 24 file) (bytes-drop 24 file b) (y .2))) (refused-step _ _ (z .1)))
@@ -196,7 +196,7 @@ module _ (file : List ℕ) (p : ℕ) (ks : List Packet) (l : length file ≤ 655
       (ap (items (packet o) 0 24) behind
       ∙ refused-behind o 24 (drop p file) (w .fit) (omega (arith, length-drop p file)) (omega (arith, length-drop p file, word-behind o p 8 file)) ∙ ap (bad CAPTURE) whole-long))
 
-pub why-refused : (file : List ℕ) {n p : ℕ} → Unreadable file n p → packets file ≡ bad n p
+pub why-refused : (file : List ℕ) {n p : ℕ} → FileRefused file n p → packets file ≡ bad n p
 unfolding packets orderOf
 why-refused file (large l) = halt _ _ _ _ (lt-ltb 65536 (length file) l)
 why-refused file (header l h) = pass _ _ _ _ (le-ltb 65536 (length file) l) (stop _ _ (rw (h big, h little, orderOf)))

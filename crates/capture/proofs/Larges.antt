@@ -8,7 +8,7 @@ use native.Mathlib.Nat.{add-zero, add-suc, suc-add, zero-add}
 use native.Mathlib.Omega.{arith}
 use borrow.Author.Tests.{le-ltb, lt-ltb, ltb-true, ltb-false}
 use lib.Dec.{ltb}
-use lib.ListN.{length, take, drop, take-append-drop, length-take, length-drop}
+use lib.ListN.{length, take, drop, take-append-drop, length-take, length-append}
 use lib.Seq.{take-add}
 use Rattle.rules.specs.Outcome.{Outcome, good, bad, _∷>_, LARGE}
 use Rattle.rules.specs.Bytes.{Bytes}
@@ -16,11 +16,11 @@ use Rattle.rules.specs.Items.{items, All, all-nil, all-cons}
 use Rattle.rules.specs.Message.{Message, message, recording}
 use Rattle.rules.specs.Writer.{write}
 use Rattle.rules.proofs.Outcomes.{stepped, fronted, front-of, good-inj, good≢bad, refused-step, refused-front, stop, stop-front, passed, pass, halt, step}
-use Rattle.rules.proofs.Numbers.{bytes-tail, bytes-drop}
+use Rattle.rules.proofs.Numbers.{bytes-tail}
 use Rattle.rules.proofs.Alone.{own}
 use Rattle.capture.specs.File.{Packet}
 use Rattle.capture.specs.Writing.{packetOf, datagram, datagrams}
-use Rattle.capture.specs.Claims.{FirstLarge, LargePlace}
+use Rattle.capture.specs.Claims.{FirstLarge}
 use Rattle.capture.proofs.Datagrams.{sent, clean-written}
 
 -- one message whose datagram is refused
@@ -35,30 +35,27 @@ too-large port p s m k n q b g e = go (ltb 65507 (length (write m))) refl
         (cc, cc, ltb-true 65507 (length (write m)) z)
 
 -- the first of messages
-record First (port k p : ℕ) (s : List ℕ) (ms : List Message) (n q : ℕ) : Type 0 where
+record First (k p : ℕ) (s : List ℕ) (ms : List Message) (n q : ℕ) : Type 0 where
   number : n ≡ LARGE
   before : List Message
-  held : Message
+  one : Message
   after : List Message
-  split : ms ≡ before ++ (held ∷ after)
+  split : ms ≡ before ++ (one ∷ after)
   fit : All (λ (m : Message). length (write m) ≤ 65507) before
-  large : 65507 < length (write held)
+  large : 65507 < length (write one)
   d : ℕ
   least : k ≤ d
   place : q ≡ p + d
   front : items message k p (take d s) ≡ good before
-  size : ℕ
-  reads : message q (drop d s) ≡ good (held, size)
-  rest : items message 0 q (drop d s) ≡ good (held ∷ after)
 
 -- behind one byte that was passed over, or one message that fits
-first-on : (port k p x : ℕ) (s : List ℕ) {ms : List Message} {n q : ℕ} → First port k (suc p) s ms n q → First port (suc k) p (x ∷ s) ms n q
+first-on : (k p x : ℕ) (s : List ℕ) {ms : List Message} {n q : ℕ} → First k (suc p) s ms n q → First (suc k) p (x ∷ s) ms n q
 unfolding items
-first-on port k p x s w =
+first-on k p x s w =
     record {
       number = w .number;
       before = w .before;
-      held = w .held;
+      one = w .one;
       after = w .after;
       split = w .split;
       fit = w .fit;
@@ -67,21 +64,18 @@ first-on port k p x s w =
       least = omega (arith, w .least);
       place = omega (arith, w .place);
       front = w .front;
-      size = w .size;
-      reads = w .reads;
-      rest = w .rest;
     }
 
-first-next : (port p x : ℕ) (s : List ℕ) (m : Message) (k : ℕ) {l ms : List Message} {n q : ℕ} → message p (x ∷ s) ≡ good (m, k) → First port (k - 1) (suc p) s l n q → m ∷ l ≡ ms → length (write m) ≤ 65507 → First port 0 p (x ∷ s) ms n q
+first-next : (p x : ℕ) (s : List ℕ) (m : Message) (k : ℕ) {l ms : List Message} {n q : ℕ} → message p (x ∷ s) ≡ good (m, k) → First (k - 1) (suc p) s l n q → m ∷ l ≡ ms → length (write m) ≤ 65507 → First 0 p (x ∷ s) ms n q
 unfolding items
-first-next port p x s m k g w e h =
+first-next p x s m k g w e h =
     let o = own p (x ∷ s) m k g in
     let y : suc (w .d) ≡ k + (suc (w .d) - k) = omega (arith, w .least, o .least) in
     let z : x ∷ take (w .d) s ≡ take k (x ∷ s) ++ take (suc (w .d) - k) (drop k (x ∷ s)) = ap (λ (j : ℕ). take j (x ∷ s)) y ∙ take-add k (suc (w .d) - k) (x ∷ s) in
     record {
       number = w .number;
       before = m ∷ w .before;
-      held = w .held;
+      one = w .one;
       after = w .after;
       split = sym e ∙ ap (λ (y : List Message). m ∷ y) (w .split);
       fit = all-cons h (w .fit);
@@ -90,47 +84,29 @@ first-next port p x s m k g w e h =
       least = omega arith;
       place = omega (arith, w .place);
       front = step _ _ (ap (message p) z ∙ o .again p (take (suc (w .d) - k) (drop k (x ∷ s)))) (front-of _ _ (w .front));
-      size = w .size;
-      reads = w .reads;
-      rest = w .rest;
     }
 
-first-here : (port p x : ℕ) (s : List ℕ) (r : Message × ℕ) {l ms : List Message} {n q : ℕ} → Bytes (x ∷ s) → message p (x ∷ s) ≡ good r → items message 0 p (x ∷ s) ≡ good ms → r .0 ∷ l ≡ ms → datagram port p (x ∷ s) ≡ bad n q → First port 0 p (x ∷ s) ms n q
+first-here : (port p x : ℕ) (s : List ℕ) (r : Message × ℕ) {l ms : List Message} {n q : ℕ} → Bytes (x ∷ s) → message p (x ∷ s) ≡ good r → r .0 ∷ l ≡ ms → datagram port p (x ∷ s) ≡ bad n q → First 0 p (x ∷ s) ms n q
 unfolding items
-first-here port p x s r {l} b g i e f =
+first-here port p x s r {l} b g e f =
     let (a, c, z) = too-large port p (x ∷ s) (r .0) (r .1) _ _ b g f in
-    record {
-      number = a;
-      before = [];
-      held = r .0;
-      after = l;
-      split = sym e;
-      fit = all-nil;
-      large = z;
-      d = 0;
-      least = omega arith;
-      place = c ∙ sym (add-zero p);
-      front = refl;
-      size = r .1;
-      reads = rw c g;
-      rest = rw (c, e) i;
-    }
+    record { number = a; before = []; one = r .0; after = l; split = sym e; fit = all-nil; large = z; d = 0; least = omega arith; place = c ∙ sym (add-zero p); front = refl }
 
-first : (port k p : ℕ) (s : List ℕ) {ms : List Message} {n q : ℕ} → Bytes s → items message k p s ≡ good ms → items (datagram port) k p s ≡ bad n q → First port k p s ms n q
+first : (port k p : ℕ) (s : List ℕ) {ms : List Message} {n q : ℕ} → Bytes s → items message k p s ≡ good ms → items (datagram port) k p s ≡ bad n q → First k p s ms n q
 unfolding items
 first port k p [] b e f = absurd (good≢bad (sym f))
-first port (suc k) p (x ∷ s) b e f = first-on port k p x s (first port k (suc p) s (bytes-tail b) e f)
-first port zero p (x ∷ s) b all f =
-    let (r, g, e) = stepped _ _ all in
+first port (suc k) p (x ∷ s) b e f = first-on k p x s (first port k (suc p) s (bytes-tail b) e f)
+first port zero p (x ∷ s) b e f =
+    let (r, g, e) = stepped _ _ e in
     let (l, i, e) = fronted _ _ e in
     ⊎-elim
-    (λ (y : datagram port p (x ∷ s) ≡ bad _ _). first-here port p x s r b g all e y)
+    (λ (y : datagram port p (x ∷ s) ≡ bad _ _). first-here port p x s r b g e y)
     (λ (y : (t : Packet × ℕ) × (datagram port p (x ∷ s) ≡ good t) × ((t .0 ∷> items (datagram port) (t .1 - 1) (suc p) s) ≡ bad _ _)).
     let w = sent port p (x ∷ s) (y .0 .0) (y .0 .1) b (y .1) in
     let v : r ≡ (w .held, y .0 .1) = good-inj (sym g ∙ w .reads) in
     let a : r .1 ≡ y .0 .1 = ap (λ (z : Message × ℕ). z .1) v in
     let c : r .0 ≡ w .held = ap (λ (z : Message × ℕ). z .0) v in
-    first-next port p x s (r .0) (r .1) g (first port (r .1 - 1) (suc p) s (bytes-tail b) i (rw a (refused-front _ _ (y .2)))) e (rw c (w .most)))
+    first-next p x s (r .0) (r .1) g (first port (r .1 - 1) (suc p) s (bytes-tail b) i (rw a (refused-front _ _ (y .2)))) e (rw c (w .most)))
     (refused-step _ _ f)
 
 -- a message whose datagram is sent, or is not
@@ -147,15 +123,21 @@ module _ (port p : ℕ) (s : List ℕ) (b : Bytes s) (m : Message) (k : ℕ) (g 
 each : {P : Message → Type 0} {m : Message} {l : List Message} → All P (m ∷ l) → P m × All P l
 each (all-cons h r) = (h, r)
 
--- messages that are sent, and behind them one that is not
-behind : (port k p : ℕ) (s : List ℕ) (d : ℕ) {ms : List Message} {n q : ℕ} → Bytes s → k ≤ d → d < length s → items message k p (take d s) ≡ good ms
-    → All (λ (m : Message). length (write m) ≤ 65507) ms → datagram port (p + d) (drop d s) ≡ bad n q → items (datagram port) k p s ≡ bad n q
+-- messages that are sent, and behind them, from place d on, one that is not
+behind : (port k p : ℕ) (s : List ℕ) (d : ℕ) {before : List Message} (one : Message) (after : List Message) → Bytes s → k ≤ d → items message k p (take d s) ≡ good before → items message k p s ≡ good (before ++ (one ∷ after))
+    → All (λ (m : Message). length (write m) ≤ 65507) before → 65507 < length (write one) → items (datagram port) k p s ≡ bad LARGE (p + d)
 unfolding items
-behind port k p [] d b h l e f z = absurd (omega arith)
-behind port (suc k) p (x ∷ s) zero b h l e f z = absurd (omega arith)
-behind port (suc k) p (x ∷ s) (suc d) b h l e f z = behind port k (suc p) s d (bytes-tail b) (omega arith) (omega arith) e f (rw (add-suc, ← suc-add) at z)
-behind port zero p (x ∷ s) zero b h l e f z = stop _ _ (rw add-zero at z)
-behind port zero p (x ∷ s) (suc d) b h l e f z =
+behind port k p [] d {before} one after b h e a f z = absurd (omega (arith, ap length (good-inj a), length-append before (one ∷ after)))
+behind port (suc k) p (x ∷ s) zero one after b h e a f z = absurd (omega arith)
+behind port (suc k) p (x ∷ s) (suc d) one after b h e a f z = rw (add-suc, ← suc-add) (behind port k (suc p) s d one after (bytes-tail b) (omega arith) e a f z)
+behind port zero p (x ∷ s) zero {before} one after b h e a f z =
+    let none : [] ≡ before = good-inj e in
+    let (r, g, a) = stepped _ _ a in
+    let (j, i, a) = fronted _ _ a in
+    let y : r .0 ∷ j ≡ one ∷ after = a ∙ ap (λ (l : List Message). l ++ (one ∷ after)) (sym none) in
+    let w : r .0 ≡ one = cc in
+    stop _ _ (rw add-zero (unsendable port p (x ∷ s) b one (r .1) (g ∙ ap (λ (m : Message). good (m, r .1)) w) z))
+behind port zero p (x ∷ s) (suc d) one after b h e a f z =
     let (r, g, e) = stepped _ _ e in
     let (j, i, e) = fronted _ _ e in
     let o = own p (x ∷ take d s) (r .0) (r .1) g in
@@ -163,48 +145,36 @@ behind port zero p (x ∷ s) (suc d) b h l e f z =
     let w : take (r .1) u ++ (drop (r .1) u ++ drop d s) ≡ x ∷ s =
     sym (append-assoc (take (r .1) u) (drop (r .1) u) (drop d s)) ∙ ap (λ (t : List ℕ). t ++ drop d s) (take-append-drop (r .1) u) ∙ ap (λ (t : List ℕ). x ∷ t) (take-append-drop d s)
     in
+    let read : message p (x ∷ s) ≡ good (r .0, r .1) = ap (message p) (sym w) ∙ o .again p (drop (r .1) u ++ drop d s) in
+    let (l, v, c) = fronted _ _ (sym (step _ _ read refl) ∙ a) in
+    let y : r .0 ∷ l ≡ r .0 ∷ (j ++ (one ∷ after)) = c ∙ ap (λ (t : List Message). t ++ (one ∷ after)) (sym e) in
+    let t : l ≡ j ++ (one ∷ after) = cc in
     let (fits, rest) = each {P = λ (m : Message). length (write m) ≤ 65507} {m = r .0} {l = j} (rw e f) in
-    step _ _ (sendable port p (x ∷ s) b (r .0) (r .1) (ap (message p) (sym w) ∙ o .again p (drop (r .1) u ++ drop d s)) fits)
-    (stop-front _ _ (behind port (r .1 - 1) (suc p) s d (bytes-tail b) (omega (arith, o .most, o .least, length-take d s)) (omega arith) i rest (rw (add-suc, ← suc-add) at z)))
+    rw (add-suc, ← suc-add) (step _ _ (sendable port p (x ∷ s) b (r .0) (r .1) read fits)
+    (stop-front _ _ (behind port (r .1 - 1) (suc p) s d one after (bytes-tail b) (omega (arith, o .most, o .least, length-take d s)) i (v ∙ ap good t) rest z)))
 
--- the first of messages that are read
-first-read : (p : ℕ) (s : List ℕ) (m : Message) {l : List Message} → items message 0 p s ≡ good (m ∷ l) → (1 ≤ length s) × ((k : ℕ) × (message p s ≡ good (m, k)))
-unfolding items
-first-read p [] m {l} e = let z : [] ≡ m ∷ l = good-inj e in absurd (omega (arith, ap length z))
-first-read p (x ∷ s) m e =
-    let (r, g, e) = stepped _ _ e in
-    let (j, i, e) = fronted _ _ e in
-    let z : r .0 ≡ m = cc in
-    (omega arith, (r .1, g ∙ ap (λ (y : Message). good (y, r .1)) z))
-
-refused-first : (s : List ℕ) (port : ℕ) (ms : List Message) (n p : ℕ) → Bytes s → recording s ≡ good ms → datagrams s port ≡ bad n p → (n ≡ LARGE) × FirstLarge s ms p
+pub refused-first : (s : List ℕ) (port : ℕ) (ms : List Message) (n p : ℕ) → Bytes s → recording s ≡ good ms → datagrams s port ≡ bad n p → (n ≡ LARGE) × FirstLarge s ms p
 unfolding recording datagrams
 refused-first s port ms n p b r e =
     let (large, read) = passed _ _ _ _ r in
-    let f : items (datagram port) 0 0 s ≡ bad n p = sym (step _ _ r refl) ∙ e in
-    let w = first port 0 0 s b read f in
+    let w = first port 0 0 s b read (sym (step _ _ r refl) ∙ e) in
     let q : w .d ≡ p = sym (w .place ∙ zero-add (w .d)) in
     let l : length (take p s) ≤ 65536 = omega (arith, ltb-false 65536 (length s) large, length-take p s) in (
       w .number,
       record {
         before = w .before;
-        held = w .held;
+        one = w .one;
         after = w .after;
         split = w .split;
         fit = w .fit;
         large = w .large;
         front = pass _ _ _ _ (le-ltb 65536 (length (take p s)) l) (subst (λ (x : ℕ). items message 0 0 (take x s) ≡ good (w .before)) q (w .front));
-        here = clean-written p (drop p s) (bytes-drop p s b) (w .held) (w .size) (subst (λ (x : ℕ). message p (drop x s) ≡ good (w .held, w .size)) q (w .reads));
-        rest = subst (λ (x : ℕ). items message 0 p (drop x s) ≡ good (w .held ∷ w .after)) q (w .rest);
       },
     )
 
-first-refused : (s : List ℕ) (port : ℕ) (ms : List Message) (p : ℕ) → Bytes s → recording s ≡ good ms → FirstLarge s ms p → datagrams s port ≡ bad LARGE p
+pub first-refused : (s : List ℕ) (port : ℕ) (ms : List Message) (p : ℕ) → Bytes s → recording s ≡ good ms → FirstLarge s ms p → datagrams s port ≡ bad LARGE p
 unfolding recording datagrams
 first-refused s port ms p b r w =
-    let (some, (k, g)) = first-read p (drop p s) (w .held) (w .rest) in
-    let (small, front) = passed _ _ _ _ (w .front) in
-    step _ _ r (behind port 0 0 s p b (omega arith) (omega (arith, length-drop p s)) front (w .fit) (rw zero-add (unsendable port p (drop p s) (bytes-drop p s b) (w .held) k g (w .large))))
-
-pub large-place : LargePlace
-large-place s port ms n p b r = (refused-first s port ms n p b r, λ w. first-refused s port ms p b r (w .1) ∙ ap (λ (k : ℕ). bad k p) (sym (w .0)))
+    let (small, read) = passed _ _ _ _ r in
+    let (less, front) = passed _ _ _ _ (w .front) in
+    step _ _ r (behind port 0 0 s p (w .one) (w .after) b (omega arith) front (read ∙ ap good (w .split)) (w .fit) (w .large) ∙ ap (bad LARGE) (zero-add p))

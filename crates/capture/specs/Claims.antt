@@ -4,16 +4,15 @@ use mathlib.Core.Path.{_≡_}
 use mathlib.Core.Logic.{_↔_}
 use mathlib.Core.Bool.{true, false}
 use mathlib.Core.List.{List, [], _∷_, _++_, map}
-use lib.ListN.{length, take, drop}
+use lib.ListN.{length, take}
 use lib.Seq.{sets}
 use Rattle.rules.specs.Outcome.{good, bad, LARGE, ROOM}
 use Rattle.refusal.specs.Numbers.{CAPTURE}
 use Rattle.rules.specs.Bytes.{Bytes, half, part, join}
-use Rattle.rules.specs.Items.{items, All}
+use Rattle.rules.specs.Items.{All}
 use Rattle.rules.specs.Message.{mostBytes, Message, message, recording}
 use Rattle.rules.specs.Writer.{write}
-use Rattle.rules.specs.Clean.{cleanForm}
-use Rattle.rules.specs.Claims.{Careful}
+use Rattle.rules.specs.Claims.{Careful, BadRecording}
 use Rattle.capture.specs.File.{Order, big, little, wordIn, recordHeader, headerGood, Packet, packets, fileIn}
 use Rattle.capture.specs.Twins.{other, twin, freeIn}
 use Rattle.capture.specs.Frame.{udpHeader, ipOf, ipHeader, forUs, lengthsFit, dataOf, onesSum, frameOf}
@@ -148,21 +147,15 @@ abbrev pub TimeDown : Type 0
 TimeDown = (port : ℕ) (m : Message) (c : List ℕ)
     → (packetOf port m c .seconds ≡ m .seconds) × (packetOf port m c .micros * 1000 ≤ m .nanos) × (m .nanos < packetOf port m c .micros * 1000 + 1000)
 
--- LARGE, after all of the checks, exactly at the first message whose clean form no datagram holds: those before it fit and end at its place, and it and those
--- behind it are what stands from there on.
+-- At place p stands the first message whose clean form no datagram holds: those before it fit, and end there.
 pub record FirstLarge (s : List ℕ) (ms : List Message) (p : ℕ) : Type 0 where
   pub before : List Message
-  pub held : Message
+  pub one : Message
   pub after : List Message
-  pub split : ms ≡ before ++ (held ∷ after)
+  pub split : ms ≡ before ++ (one ∷ after)
   pub fit : All (λ (m : Message). length (write m) ≤ mostData) before
-  pub large : mostData < length (write held)
+  pub large : mostData < length (write one)
   pub front : recording (take p s) ≡ good before
-  pub here : cleanForm (drop p s) ≡ good (write held)
-  pub rest : items message 0 p (drop p s) ≡ good (held ∷ after)
-
-abbrev pub LargePlace : Type 0
-LargePlace = (s : List ℕ) (port : ℕ) (ms : List Message) (n p : ℕ) → Bytes s → recording s ≡ good ms → (datagrams s port ≡ bad n p) ↔ ((n ≡ LARGE) × FirstLarge s ms p)
 
 -- ---- Written and read again
 
@@ -191,37 +184,38 @@ pub record RoomRefused : Type 0 where
   pub write : (s : List ℕ) (port : ℕ) (buffer : List ℕ) (ks : List Packet) → datagrams s port ≡ good ks → length buffer < length (fileOf ks)
       → writeCapture s port buffer ≡ (record { number = ROOM; place = length (fileOf ks); bytes = 0; messages = 0 }, buffer)
 
--- Why and where a file is not read, in the order of the tests: it is too large; its header is good in neither byte order; or its end cuts a record. What is
+-- Why and where a file is refused, in the order of the tests: it is too large; its header is good in neither byte order; or its end cuts a record. What is
 -- before that record is a file of whole packets, and from its place on there are fewer bytes than its header and the captured ones that the header says.
-pub data Unreadable (file : List ℕ) : ℕ → ℕ → Type 0 where
-  large : mostBytes < length file → Unreadable file LARGE mostBytes
-  header : length file ≤ mostBytes → ((o : Order) → headerGood o file ≡ false) → Unreadable file CAPTURE 0
+pub data FileRefused (file : List ℕ) : ℕ → ℕ → Type 0 where
+  large : mostBytes < length file → FileRefused file LARGE mostBytes
+  header : length file ≤ mostBytes → ((o : Order) → headerGood o file ≡ false) → FileRefused file CAPTURE 0
   cut : {p : ℕ} {ks : List Packet} → length file ≤ mostBytes → (before : FileOf (take p file) ks) → p < length file
-      → length file < p + recordHeader + wordIn (before .order) file (p + 8) → Unreadable file CAPTURE p
+      → length file < p + recordHeader + wordIn (before .order) file (p + 8) → FileRefused file CAPTURE p
 
--- Why and where nothing is taken of a file: it is not read, or the buffer has no room for the recording.
-pub data Unread (file : List ℕ) (port : ℕ) (buffer : List ℕ) : ℕ → ℕ → Type 0 where
-  unreadable : {n p : ℕ} → Unreadable file n p → Unread file port buffer n p
-  roomless : {ks : List Packet} → packets file ≡ good ks → length buffer < length (recordingOf (takenOf port ks)) → Unread file port buffer ROOM (length (recordingOf (takenOf port ks)))
+-- Why and where reading is refused: the file is; or it is not, and the buffer has no room for the recording.
+pub data ReadRefused (file : List ℕ) (port : ℕ) (buffer : List ℕ) : ℕ → ℕ → Type 0 where
+  by-file : {n p : ℕ} → FileRefused file n p → ReadRefused file port buffer n p
+  no-room : {ks : List Packet} → packets file ≡ good ks → length buffer < length (recordingOf (takenOf port ks)) → ReadRefused file port buffer ROOM (length (recordingOf (takenOf port ks)))
 
--- Each refusal, told by a number that is not 0, is given exactly if its reason holds, at its place, and nothing else is reported with it.
+-- Each refusal in reading is given exactly if its reason holds, at its place, and nothing else is reported with it. No reason has the number 0.
 pub record ReadRefusedExactly : Type 0 where
-  pub file : (file : List ℕ) (n p : ℕ) → Bytes file → (packets file ≡ bad n p) ↔ Unreadable file n p
-  pub answer : (file : List ℕ) (port : ℕ) (buffer : List ℕ) (n p : ℕ) → Bytes file → (n ≡ 0 → ⊥)
-      → (readCapture file port buffer ≡ (record { number = n; place = p; bytes = 0; kept = 0; notForUs = 0; cutShort = 0; badMessage = 0 }, buffer)) ↔ Unread file port buffer n p
+  pub file : (file : List ℕ) (n p : ℕ) → Bytes file → (packets file ≡ bad n p) ↔ FileRefused file n p
+  pub answer : (file : List ℕ) (port : ℕ) (buffer : List ℕ) (n p : ℕ) → Bytes file
+      → ((n ≡ 0 → ⊥) × (readCapture file port buffer ≡ (record { number = n; place = p; bytes = 0; kept = 0; notForUs = 0; cutShort = 0; badMessage = 0 }, buffer))) ↔ ReadRefused file port buffer n p
 
--- Why and where a recording is not written, in the order of the tests: it is refused as a recording, by its size or the first check that a message does not
+-- Why and where the packets of a recording are refused, in the order of the tests: it is refused as a recording, by its size or the first check that a message does not
 -- pass; or all pass, and no datagram holds a clean form.
-pub data Unsendable (s : List ℕ) : ℕ → ℕ → Type 0 where
-  checks : {n p : ℕ} → recording s ≡ bad n p → Unsendable s n p
-  large : {p : ℕ} {ms : List Message} → recording s ≡ good ms → FirstLarge s ms p → Unsendable s LARGE p
+pub data PacketsRefused (s : List ℕ) : ℕ → ℕ → Type 0 where
+  checks : {n p : ℕ} → BadRecording s n p → PacketsRefused s n p
+  large : {p : ℕ} {ms : List Message} → recording s ≡ good ms → FirstLarge s ms p → PacketsRefused s LARGE p
 
--- And last: the buffer has no room for the file.
-pub data Unwritten (s : List ℕ) (port : ℕ) (buffer : List ℕ) : ℕ → ℕ → Type 0 where
-  unsendable : {n p : ℕ} → Unsendable s n p → Unwritten s port buffer n p
-  roomless : {ks : List Packet} → datagrams s port ≡ good ks → length buffer < length (fileOf ks) → Unwritten s port buffer ROOM (length (fileOf ks))
+-- Why and where writing is refused: the packets are; or they are not, and the buffer has no room for the file.
+pub data WriteRefused (s : List ℕ) (port : ℕ) (buffer : List ℕ) : ℕ → ℕ → Type 0 where
+  by-packets : {n p : ℕ} → PacketsRefused s n p → WriteRefused s port buffer n p
+  no-room : {ks : List Packet} → datagrams s port ≡ good ks → length buffer < length (fileOf ks) → WriteRefused s port buffer ROOM (length (fileOf ks))
 
+-- Each refusal in writing is given exactly if its reason holds, at its place, and nothing else is reported with it. No reason has the number 0.
 pub record WriteRefusedExactly : Type 0 where
-  pub packets : (s : List ℕ) (port n p : ℕ) → Bytes s → (datagrams s port ≡ bad n p) ↔ Unsendable s n p
-  pub answer : (s : List ℕ) (port : ℕ) (buffer : List ℕ) (n p : ℕ) → Bytes s → (n ≡ 0 → ⊥)
-      → (writeCapture s port buffer ≡ (record { number = n; place = p; bytes = 0; messages = 0 }, buffer)) ↔ Unwritten s port buffer n p
+  pub packets : (s : List ℕ) (port n p : ℕ) → Bytes s → (datagrams s port ≡ bad n p) ↔ PacketsRefused s n p
+  pub answer : (s : List ℕ) (port : ℕ) (buffer : List ℕ) (n p : ℕ) → Bytes s
+      → ((n ≡ 0 → ⊥) × (writeCapture s port buffer ≡ (record { number = n; place = p; bytes = 0; messages = 0 }, buffer))) ↔ WriteRefused s port buffer n p
