@@ -1,7 +1,7 @@
 -- Each claim, proved by the laws.
 use Prim.Native.Nat.{ℕ, _≤_}
 use mathlib.Core.Path.{_≡_, refl, ap, ap₂, sym, subst, _∙_}
-use mathlib.Core.Logic.{_⊎_, inl, inr}
+use mathlib.Core.Logic.{_⊎_}
 use mathlib.Core.List.{List, [], _∷_, _++_, map, append-nil}
 use mathlib.Core.Option.{none}
 use native.Mathlib.Omega.{arith}
@@ -18,7 +18,6 @@ use Rattle.rules.specs.Clean.{cleanForm}
 use Rattle.rules.specs.Buffer.{stored, fitted}
 use Rattle.rules.specs.Claims.{Careful, TellsApart}
 use Rattle.rules.proofs.Apart.{beside}
-use Rattle.refusal.specs.Numbers.{GAP}
 use Rattle.refusal.proofs.Numbers.{number-positive, same-refusal}
 use Rattle.fragments.specs.declared.Fragmented.{Fragmented}
 use Rattle.fragments.specs.declared.Fragmented.the-variants.{Done, Refused}
@@ -30,7 +29,7 @@ use Rattle.rules.proofs.Kept.{careful-sets, careful-none, careful-stored, take-
 use Rattle.fragments.specs.Fragment.{Fragment, fragment, fragmentBytes, bytesOf, payloadsOf}
 use Rattle.fragments.specs.Cutting.{wholeOf, cutInto, CutAnswer, roomForAll, cutStored, cutter}
 use Rattle.fragments.specs.Joining.{joinedWith, atStart, cleanJoined, joined, joiner}
-use Rattle.fragments.specs.Claims.{WholeSet, fragmentsIn, CutRead, CutInOrder, CutEach, CutPayload, CutFits, CutFilled, CutCount, CutRefusedExactly, CutJoined, WholeJoined, GapExactly, JoinGap, JoinRefusals, JoinRefusedExactly, JoinClean, JoinNotLonger, BuffersKept, Writes, RefusalsTold, RoomRefused}
+use Rattle.fragments.specs.Claims.{WholeSet, CutRead, CutInOrder, CutEach, CutPayload, CutFits, CutFilled, CutCount, CutRefusedExactly, CutJoined, WholeJoined, JoinRefusedExactly, JoinWhole, JoinRefusals, JoinClean, JoinNotLonger, BuffersKept, Writes, RefusalsTold, RoomRefused}
 use Rattle.fragments.specs.Worked.{WorkedCuts, WorkedJoins}
 use Rattle.fragments.proofs.Worked as hand
 use Rattle.fragments.proofs.Each as each
@@ -38,7 +37,6 @@ use Rattle.fragments.proofs.Uncut as uncut
 use Rattle.fragments.proofs.Unjoined as unjoined
 use Rattle.fragments.proofs.Again.{Valid, fragment-again, payload-again}
 use Rattle.fragments.proofs.From.{set-read}
-use Rattle.fragments.proofs.Order.{Few, set-placed, placed-set, Decided, kept, gap, decided, gap-at, spots-read, all-few}
 use Rattle.fragments.proofs.Back as back
 use Rattle.fragments.proofs.Back.{CutOf, cut-of, whole-valid}
 use Rattle.fragments.proofs.Readings.{ReadAll, reads-all}
@@ -105,12 +103,6 @@ whole-joined s b l m e =
     let (r, q, z) = stepped _ _ e in
     one-joined s b l r q (ap (λ (k : Message × ℕ). k .1) (good-inj z))
 
--- a refusal at place 0
-start-bad : {A : Type 0} (o : Outcome A) {n q : ℕ} → atStart o ≡ bad n q → (p : ℕ) × (o ≡ bad n p) × (q ≡ 0)
-unfolding atStart
-start-bad (good a) e = absurd (good≢bad (sym e))
-start-bad (bad n p) e = (p, cc, cc)
-
 start-good : {A : Type 0} (o : Outcome A) {a : A} → atStart o ≡ good a → o ≡ good a
 unfolding atStart
 start-good (good a) e = e
@@ -123,45 +115,17 @@ refused-joined s [] n q l a w e = absurd (some-set w)
     some-set : WholeSet [] → ⊥
     some-set = elim [ ]
 refused-joined s (f ∷ fs) n q l a w e =
-    let (p, g, z) = start-bad _ e in
+    let (p, g, z) = unjoined.start-bad _ e in
     (joined-refused f fs s l a g, z)
 
+pub join-whole : JoinWhole
+join-whole s fs w v = unjoined.joins-whole s w v
+
 pub join-refusals : JoinRefusals
-join-refusals s spots n q b l e w z = go (decided none 0 0 s e)
-  where
-    go : Decided none 0 0 s spots → ((n ≡ STANDARD) ⊎ (n ≡ PACKAGE) ⊎ (n ≡ COUNT)) × (q ≡ 0)
-    go (kept r p) = refused-joined s (fragmentsIn spots) n q l (reads-all none 0 0 s b l r) w z
-    go (gap k r x i) = absurd (x (set-placed w))
+join-refusals s fs n q b w v z = refused-joined s fs n q (w .small) (reads-all none 0 0 s b (w .small) (unjoined.read-whole s w v)) v (sym (unjoined.joins-whole s w v) ∙ z)
 
 pub join-refused-exactly : JoinRefusedExactly
 join-refused-exactly s n p = (unjoined.refused s, unjoined.refuses s)
-
--- GAP is none of these three
-no-gap : (GAP ≡ STANDARD) ⊎ (GAP ≡ PACKAGE) ⊎ (GAP ≡ COUNT) → ⊥
-no-gap (inl e) = omega arith
-no-gap (inr (inl e)) = omega arith
-no-gap (inr (inr e)) = omega arith
-
-pub join-gap : JoinGap
-unfolding joined
-join-gap s spots b l e = go (decided none 0 0 s e)
-  where
-    few : All Few (fragmentsIn spots)
-    few = all-few 0 0 s (spots-read 0 0 s e)
-
-    go : Decided none 0 0 s spots → GapExactly s spots
-    go (kept r w) =
-        let same : joined s ≡ cleanJoined (fragmentsIn spots) = pass _ _ _ _ (le-ltb 65536 (length s) l) (step _ _ r refl) in
-        record {
-          given = λ n. absurd (n (placed-set few w));
-          never = λ w q z. no-gap (join-refusals s spots GAP q b l e w (sym same ∙ z) .0);
-          only = λ w. same;
-        }
-    go (gap q r n k) = record {
-      given = λ w. (q, pass _ _ _ _ (le-ltb 65536 (length s) l) (stop _ _ r), gap-at few n k);
-      never = λ w q z. n (set-placed w);
-      only = λ w. absurd (n (set-placed w));
-    }
 
 short-joined : (s c : List ℕ) (fs : List Fragment) → length s ≤ 65536 → ReadAll s fs → cleanJoined fs ≡ good c → length c ≤ length s
 unfolding cleanJoined

@@ -1,5 +1,5 @@
--- GAP is given exactly where the fragments are no whole set in order, at the first that does not continue those before it.
-use Prim.Native.Nat.{ℕ, zero, suc, _+_, _-_, _≤_, _<_}
+-- Fragments that are each in their place are a whole set in order; and which can be continued to one.
+use Prim.Native.Nat.{ℕ, _+_, _≤_, _<_}
 use mathlib.Core.Path.{_≡_, refl, sym, ap, subst, _∙_}
 use mathlib.Core.Logic.{_⊎_, inl, inr, ⊎-elim}
 use mathlib.Core.Bool.{Bool, true, false, _&&_, _||_}
@@ -10,17 +10,15 @@ use native.Mathlib.Omega.{arith}
 use borrow.Author.Tests.{eqb-true, eqb-false, eq-eqb, not-true}
 use lib.Dec.{eqb}
 use lib.ListN.{length}
-use Rattle.rules.specs.Outcome.{good, bad}
-use Rattle.refusal.specs.Numbers.{GAP}
+use Rattle.rules.specs.Outcome.{good}
 use Rattle.rules.specs.Items.{items, All, all-nil, all-cons}
-use Rattle.rules.proofs.Outcomes.{pass, halt, step, stepped, fronted, front-of, both, good-inj, stop-front, neither}
+use Rattle.rules.proofs.Outcomes.{stepped, both, good-inj, neither}
 use Rattle.rules.proofs.Walk.{items-all}
 use Rattle.rules.specs.Bytes.{word}
 use Rattle.rules.specs.Options.{optionSize}
 use Rattle.fragments.specs.Fragment.{WHOLE, FIRST, MIDDLE, LAST, Fragment, parts, isOffset, offsetIn, offsetOf, fragmentOf, fragment, nextNumber}
-use Rattle.fragments.specs.Joining.{saysOffset, begins, goesOn, behindOffset, follows, inPlace, complete, fragmentsFrom}
-use Rattle.fragments.specs.Claims.{Behind, Follow, end, next, WholeSet, one, many, spot, fragmentsIn, Continued, GapAt, at-fragment}
-use Rattle.fragments.specs.Claims as claims
+use Rattle.fragments.specs.Joining.{saysOffset, begins, goesOn, behindOffset, follows, inPlace, complete}
+use Rattle.fragments.specs.Claims.{Behind, Follow, end, next, WholeSet, one, many, Continued}
 use Rattle.fragments.proofs.From.{behind-follows}
 
 -- every fragment is in its place, and the last is there
@@ -140,81 +138,12 @@ placed-set (all-cons {a = f} {l = fs} few all) (more i r) = ⊎-elim (λ z. whol
         let e = eqb-true _ _ x in
         many e (says _ _ y) (placed-follow f 0 few (omega arith) (says _ _ y) all r)
 
--- ---- reading, decided
+-- ---- what can be continued, and what not
 
 -- fragments one behind the other, each in its place behind b; e is the last of them
 pub data Chain : Option Fragment → List Fragment → Option Fragment → Type 0 where
   link-none : {b : Option Fragment} → Chain b [] b
   link : {b e : Option Fragment} {f : Fragment} {fs : List Fragment} → inPlace b f ≡ true → Chain (some f) fs e → Chain b (f ∷ fs) e
-
--- they break off at a fragment that is out of place, or at the end
-pub data Broken (b : Option Fragment) (p : ℕ) (s : List ℕ) (spots : List (ℕ × Fragment)) (q : ℕ) : Type 0 where
-  broke : {e : Option Fragment} (before after : List (ℕ × Fragment)) (f : Fragment) → spots ≡ before ++ ((q, f) ∷ after) → Chain b (fragmentsIn before) e → inPlace e f ≡ false → Broken b p s spots q
-  missing : {e : Option Fragment} → Chain b (fragmentsIn spots) e → complete e ≡ false → q ≡ p + length s → Broken b p s spots q
-
--- fragments that all pass checks 1 to 7 are kept, or refused with GAP
-pub data Decided (b : Option Fragment) (k p : ℕ) (s : List ℕ) (spots : List (ℕ × Fragment)) : Type 0 where
-  kept : fragmentsFrom b k p s ≡ good (fragmentsIn spots) → Placed b (fragmentsIn spots) → Decided b k p s spots
-  gap : (q : ℕ) → fragmentsFrom b k p s ≡ bad GAP q → (Placed b (fragmentsIn spots) → ⊥) → Broken b p s spots q → Decided b k p s spots
-
-at-end : (b : Option Fragment) (k p : ℕ) → Decided b k p [] []
-unfolding fragmentsFrom
-at-end b k p = go (complete b) refl
-  where
-    no : (c : Bool) → complete b ≡ c → c ≡ false → Placed b [] → ⊥
-    no c e f (done t) = false≢true (sym f ∙ sym e ∙ t)
-
-    go : (c : Bool) → complete b ≡ c → Decided b k p [] []
-    go true t = kept (pass _ _ _ _ (rw t) refl) (done t)
-    go false t = gap p (halt _ _ _ _ (rw t)) (no false t refl) (missing link-none t (omega arith))
-
-one-more : (b : Option Fragment) (k p x : ℕ) (s : List ℕ) {spots : List (ℕ × Fragment)} → Decided b k (suc p) s spots → Decided b (suc k) p (x ∷ s) spots
-unfolding fragmentsFrom
-one-more b k p x s (kept e r) = kept e r
-one-more b k p x s {spots} (gap q e n w) = gap q e n (further w)
-  where
-    further : Broken b (suc p) s spots q → Broken b p (x ∷ s) spots q
-    further (broke before after f e c i) = broke before after f e c i
-    further (missing c i e) = missing c i (omega arith)
-
-spot-is : (p : ℕ) (s : List ℕ) (r : (ℕ × Fragment) × ℕ) → spot p s ≡ good r → (r .0 .0 ≡ p) × (fragment p s ≡ good (r .0 .1, r .1))
-unfolding spot
-spot-is p s r e =
-    let (a, g, h) = stepped _ _ e in
-    let z = good-inj h in
-    (ap (λ (x : (ℕ × Fragment) × ℕ). x .0 .0) (sym z), g ∙ ap (λ (x : (ℕ × Fragment) × ℕ). good (x .0 .1, x .1)) z)
-
-here : (b : Option Fragment) (p x : ℕ) (s : List ℕ) (r : (ℕ × Fragment) × ℕ) (l : List (ℕ × Fragment)) → r .0 .0 ≡ p → fragment p (x ∷ s) ≡ good (r .0 .1, r .1)
-    → Decided (some (r .0 .1)) (r .1 - 1) (suc p) s l → Decided b zero p (x ∷ s) (r .0 ∷ l)
-unfolding fragmentsFrom
-here b p x s r l z g d = go (inPlace b (r .0 .1)) refl d
-  where
-    no : (c : Bool) → inPlace b (r .0 .1) ≡ c → c ≡ false → Placed b (r .0 .1 ∷ fragmentsIn l) → ⊥
-    no c e f (more t w) = false≢true (sym f ∙ sym e ∙ t)
-
-    behind : (Placed (some (r .0 .1)) (fragmentsIn l) → ⊥) → Placed b (r .0 .1 ∷ fragmentsIn l) → ⊥
-    behind n (more t w) = n w
-
-    further : {q : ℕ} → inPlace b (r .0 .1) ≡ true → Broken (some (r .0 .1)) (suc p) s l q → Broken b p (x ∷ s) (r .0 ∷ l) q
-    further t (broke before after f e c i) = broke (r .0 ∷ before) after f (ap (λ (k : List (ℕ × Fragment)). r .0 ∷ k) e) (link t c) i
-    further t (missing c i e) = missing (link t c) i (omega arith)
-
-    go : (c : Bool) → inPlace b (r .0 .1) ≡ c → Decided (some (r .0 .1)) (r .1 - 1) (suc p) s l → Decided b zero p (x ∷ s) (r .0 ∷ l)
-    go true t (kept e w) = kept (step _ _ g (pass _ _ _ _ (rw t) (front-of _ _ e))) (more t w)
-    go true t (gap q e n w) = gap q (step _ _ g (pass _ _ _ _ (rw t) (stop-front _ _ e))) (behind n) (further t w)
-    go false t d = gap p (step _ _ g (halt _ _ _ _ (rw t))) (no false t refl) (broke [] l (r .0 .1) (ap (λ (k : ℕ). (k, r .0 .1) ∷ l) z) link-none t)
-
-pub decided : (b : Option Fragment) (k p : ℕ) (s : List ℕ) {spots : List (ℕ × Fragment)} → items spot k p s ≡ good spots → Decided b k p s spots
-unfolding items
-decided b k p [] {spots} e = let q : [] ≡ spots = cc in rw (← q) (at-end b k p)
-decided b (suc k) p (x ∷ s) e = one-more b k p x s (decided b k (suc p) s e)
-decided b zero p (x ∷ s) {spots} e =
-    let (r, g, d) = stepped _ _ e in
-    let (l, i, m) = fronted _ _ d in
-    let (z, h) = spot-is p (x ∷ s) r g in
-    rw (← m) (here b p x s r l z h (decided (some (r .0 .1)) (r .1 - 1) (suc p) s i))
-
--- ---- what can be continued, and what not
 
 pub chain-placed : {b e : Option Fragment} {fs : List Fragment} (rest : List Fragment) → Chain b fs e → Placed e rest → Placed b (fs ++ rest)
 chain-placed rest link-none w = w
@@ -287,26 +216,6 @@ not-continued {e} {fs} f c i (rest, w) = out (placed-chain (f ∷ rest) c (rw ap
   where
     out : Placed e (f ∷ rest) → ⊥
     out (more t r) = false≢true (sym i ∙ t)
-
-all-front : {P : Fragment → Type 0} (before after : List (ℕ × Fragment)) → All P (fragmentsIn (before ++ after)) → All P (fragmentsIn before)
-all-front [] after h = all-nil
-all-front (x ∷ before) after (all-cons a r) = all-cons a (all-front before after r)
-
-pub gap-at : {s : List ℕ} {spots : List (ℕ × Fragment)} {q : ℕ} → All Few (fragmentsIn spots) → (Placed none (fragmentsIn spots) → ⊥) → Broken none 0 s spots q → GapAt s spots q
-gap-at {q = q} few n (broke before after f e c i) =
-    at-fragment before after f e (continued (all-front before ((q, f) ∷ after) (subst (λ (k : List (ℕ × Fragment)). All Few (fragmentsIn k)) e few)) c) (not-continued f c i)
-gap-at few n (missing c i e) = claims.at-end (continued few c) (λ w. n (set-placed w)) (e ∙ zero-add _)
-
--- the fragments alone are read so too
-pub spots-read : (k p : ℕ) (s : List ℕ) {spots : List (ℕ × Fragment)} → items spot k p s ≡ good spots → items fragment k p s ≡ good (fragmentsIn spots)
-unfolding items
-spots-read k p [] {spots} e = let q : [] ≡ spots = cc in rw (← q)
-spots-read (suc k) p (x ∷ s) e = spots-read k (suc p) s e
-spots-read zero p (x ∷ s) {spots} e =
-    let (r, g, d) = stepped _ _ e in
-    let (l, i, m) = fronted _ _ d in
-    let (z, h) = spot-is p (x ∷ s) r g in
-    rw (← m) (step _ _ h (front-of _ _ (spots-read (r .1 - 1) (suc p) s i)))
 
 -- ---- bits 5-4 of what is read
 

@@ -17,7 +17,7 @@ use Rattle.rules.specs.Message.{mostBytes, Message}
 use Rattle.rules.proofs.Outcomes.{pass, halt, after, step, stop, stop-before, passed, refused-at, refused-step, refused-after, neither, good≢bad}
 use Rattle.fragments.specs.Fragment.{Fragment, optionsOf, isOffset}
 use Rattle.fragments.specs.Cutting.{wholeOf, noOffset, fragmentsOf, cutWhole, cutInto}
-use Rattle.fragments.specs.Claims.{SizeAllowed, WithoutOffset, OffsetAt, Passes, CutRefused, large, bad-message, bad-size, has-offset, no-place}
+use Rattle.fragments.specs.Claims.{SizeAllowed, OffsetAbsent, OffsetAt, FirstPasses, CutRefused, large, bad-message, bad-size, has-offset, no-place}
 use Rattle.fragments.proofs.Order.{false≢true, never-false}
 use Rattle.fragments.proofs.Answering.{whole-full}
 
@@ -45,7 +45,7 @@ offset-found p (c ∷ options) {n} {q} e = ⊎-elim (λ z. here z) (λ z. furthe
       },
     )
 
-finds-offset : (p : ℕ) {before : List (List ℕ)} (option : List ℕ) (behind : List (List ℕ)) → WithoutOffset before → kindOf option ≡ 0x86
+finds-offset : (p : ℕ) {before : List (List ℕ)} (option : List ℕ) (behind : List (List ℕ)) → OffsetAbsent before → kindOf option ≡ 0x86
     → noOffset p (before ++ (option ∷ behind)) ≡ bad OPTION (p + length (join before))
 unfolding noOffset isOffset
 finds-offset p option behind all-nil k = rw add-zero (halt _ _ _ _ (eq-eqb (kindOf option) 0x86 k))
@@ -53,12 +53,12 @@ finds-offset p option behind (all-cons {a = c} {l = before} h r) k =
     let z : p + length (c ++ join before) ≡ p + length c + length (join before) = omega (arith, length-append c (join before)) in
     pass _ _ _ _ (ne-eqb (kindOf c) 0x86 h) (rw z (finds-offset (p + length c) option behind r k))
 
-offset-none : (p : ℕ) (options : List (List ℕ)) → noOffset p options ≡ good tt → WithoutOffset options
+offset-none : (p : ℕ) (options : List (List ℕ)) → noOffset p options ≡ good tt → OffsetAbsent options
 unfolding noOffset isOffset
 offset-none p [] e = all-nil
 offset-none p (c ∷ options) e = let (t, e) = passed _ _ _ _ e in all-cons (eqb-false _ _ t) (offset-none (p + length c) options e)
 
-none-passes : (p : ℕ) {options : List (List ℕ)} → WithoutOffset options → noOffset p options ≡ good tt
+none-passes : (p : ℕ) {options : List (List ℕ)} → OffsetAbsent options → noOffset p options ≡ good tt
 unfolding noOffset isOffset
 none-passes p all-nil = refl
 none-passes p (all-cons {a = c} h r) = pass _ _ _ _ (ne-eqb (kindOf c) 0x86 h) (none-passes (p + length c) r)
@@ -97,7 +97,7 @@ module _ (size : ℕ) (s : List ℕ) where
   named : {m n p q : ℕ} → m ≡ n → p ≡ q → CutRefused size s m p → CutRefused size s n q
   named e f r = rw (← e, ← f) r
 
-  module _ (m : Message) (w : Passes s m) {n p : ℕ} where
+  module _ (m : Message) (w : FirstPasses s m) {n p : ℕ} where
     from-options : SizeAllowed size → (noOffset 24 (optionsOf (m .options)) >> cutWhole size (wholeOf m)) ≡ bad n p → CutRefused size s n p
     unfolding wholeOf
     from-options a e =
@@ -116,11 +116,11 @@ module _ (size : ℕ) (s : List ℕ) where
       (λ z. named (z .1) (z .2) (large (ltb-true _ _ (z .0))))
       (λ z. ⊎-elim
       (λ f. bad-message (ltb-false _ _ (z .0)) f)
-      (λ f. from-size (f .0 .0) (record { small = ltb-false _ _ (z .0); bytes = f .0 .1; read = f .1 }) (f .2))
+      (λ f. from-size (f .0 .0) (record { small = ltb-false _ _ (z .0); size = f .0 .1; read = f .1 }) (f .2))
       (refused-step _ _ (z .1)))
       (refused-at _ _ _ _ e)
 
-  reaches-size : {m : Message} {n p : ℕ} → Passes s m → (refuse (badSize size) LENGTH 0 >> (noOffset 24 (optionsOf (m .options)) >> cutWhole size (wholeOf m))) ≡ bad n p → cutInto size s ≡ bad n p
+  reaches-size : {m : Message} {n p : ℕ} → FirstPasses s m → (refuse (badSize size) LENGTH 0 >> (noOffset 24 (optionsOf (m .options)) >> cutWhole size (wholeOf m))) ≡ bad n p → cutInto size s ≡ bad n p
   unfolding cutInto
   reaches-size w e = pass _ _ _ _ (le-ltb mostBytes (length s) (w .small)) (step _ _ (w .read) e)
 

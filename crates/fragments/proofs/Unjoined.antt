@@ -14,13 +14,13 @@ use Rattle.rules.specs.Outcome.{Outcome, good, bad, _>>=_, _∷>_}
 use Rattle.refusal.specs.Numbers.{GAP}
 use Rattle.rules.specs.Items.{items, All, all-nil, all-cons}
 use Rattle.rules.specs.Message.{mostBytes, head, payloadStart, checksOneToSix, optionRunLength}
-use Rattle.rules.proofs.Outcomes.{pass, halt, step, stop, stepped, fronted, front-of, came-after, passed, good-inj, good≢bad, refused-at, refused-step, refused-front}
+use Rattle.rules.proofs.Outcomes.{pass, halt, step, stop, stepped, fronted, front-of, came-after, passed, good-inj, bad-inj, good≢bad, refused-at, refused-step, refused-front}
 use Rattle.rules.proofs.Alone.{part-append, head-append}
 use Rattle.rules.proofs.Loops.{_++>_}
 use Rattle.rules.proofs.Passed.{sound}
 use Rattle.fragments.specs.Fragment.{Fragment, fragmentOf, fragment}
-use Rattle.fragments.specs.Joining.{inPlace, complete, fragmentsFrom, cleanJoined, joined}
-use Rattle.fragments.specs.Claims.{WholeSet, Continued, InOrderTo, JoinRefused, too-large, bad-fragment, gap, last-missing, bad-whole}
+use Rattle.fragments.specs.Joining.{inPlace, complete, fragmentsFrom, atStart, cleanJoined, joined}
+use Rattle.fragments.specs.Claims.{WholeSet, Continued, InOrderTo, JoinRefused, large, bad-fragment, gap, last-missing, bad-whole}
 use Rattle.fragments.proofs.From.{from-gap, from-stop, from-end, from-missing}
 use Rattle.fragments.proofs.Order.{Placed, done, more, set-placed, Few, false≢true, never-true, placed-set, Chain, link-none, link, chain-placed, placed-chain, chain-few, continued, not-continued, bits-few, all-few}
 use Rattle.fragments.proofs.Gathering.{short}
@@ -234,15 +234,35 @@ module _ (s : List ℕ) (q : ℕ) (fs : List Fragment) (w : InOrderTo s q fs) (e
   unfolding _++>_
   whole-read z v = read-on ∙ rw (z, drop-length s, from-end e (length s) (set-complete c v), append-nil)
 
+-- ---- what the fragments make up is refused at place 0
+
+pub start-bad : {A : Type 0} (o : Outcome A) {n q : ℕ} → atStart o ≡ bad n q → (p : ℕ) × (o ≡ bad n p) × (q ≡ 0)
+unfolding atStart
+start-bad (good a) e = absurd (good≢bad (sym e))
+start-bad (bad n p) e = (p, cc, cc)
+
+at-start : (fs : List Fragment) {n p : ℕ} → cleanJoined fs ≡ bad n p → p ≡ 0
+unfolding cleanJoined
+at-start [] e = sym (bad-inj e .1)
+at-start (f ∷ fs) e = start-bad _ e .2
+
 -- ---- all of it
 
 module _ (s : List ℕ) where
   chained : {q : ℕ} {fs : List Fragment} → InOrderTo s q fs → (e : Option Fragment) × Chain none fs e
   chained {fs = fs} w = chain-of fs (w .continued .0) (set-placed (w .continued .1))
 
+  module _ {fs : List Fragment} (w : InOrderTo s (length s) fs) (v : WholeSet fs) where
+    pub read-whole : fragmentsFrom none 0 0 s ≡ good fs
+    read-whole = let (e, c) = chained w in whole-read s (length s) fs w e c (omega arith) refl v
+
+    pub joins-whole : joined s ≡ cleanJoined fs
+    unfolding joined
+    joins-whole = pass _ _ _ _ (le-ltb mostBytes (length s) (w .small)) (step _ _ read-whole refl)
+
   pub refuses : {n p : ℕ} → JoinRefused s n p → joined s ≡ bad n p
   unfolding joined
-  refuses (too-large l) = halt _ _ _ _ (lt-ltb mostBytes (length s) l)
+  refuses (large l) = halt _ _ _ _ (lt-ltb mostBytes (length s) l)
   refuses (bad-fragment {q = q} {fs = fs} w l f) =
       let (e, c) = chained w in
       stays s q fs w e c (omega arith) (from-stop e q (drop q s) (omega (arith, length-drop q s)) f)
@@ -253,9 +273,7 @@ module _ (s : List ℕ) where
   refuses (last-missing {fs = fs} w h) =
       let (e, c) = chained w in
       stays s (length s) fs w e c (omega arith) (rw (drop-length s) (from-missing e (length s) (incomplete s (length s) fs w e c (omega arith) h)))
-  refuses (bad-whole {fs = fs} w v z) =
-      let (e, c) = chained w in
-      pass _ _ _ _ (le-ltb mostBytes (length s) (w .small)) (step _ _ (whole-read s (length s) fs w e c (omega arith) refl v) z)
+  refuses (bad-whole w v z) = joins-whole w v ∙ z
 
 -- fragments of the front, in order
 up-to : (front rest : List ℕ) {fs : List Fragment} {e : Option Fragment} → items fragment 0 0 front ≡ good fs → Chain none fs e → length (front ++ rest) ≤ mostBytes → InOrderTo (front ++ rest) (length front) fs
@@ -275,15 +293,16 @@ module _ (s : List ℕ) where
   by-reading {n} {p} l w = subst (λ (k : List ℕ). JoinRefused k n p) (w .split) (was-stopped (w .front) (w .read) (w .chain) (rw (w .split) l) (omega (arith, w .there)) (w .stops))
 
   by-checks : {n p : ℕ} (fs : List Fragment) → length s ≤ mostBytes → fragmentsFrom none 0 0 s ≡ good fs → cleanJoined fs ≡ bad n p → JoinRefused s n p
-  by-checks fs l e z =
+  by-checks {n} fs l e z =
       let (r, w) = in-order none 0 0 s e in
       let v : WholeSet fs = placed-set (all-few 0 0 s r) w in
-      bad-whole {fs = fs} (record { small = l; read = rw (take-length s) r; continued = ([], rw append-nil v) }) v z
+      let q = at-start fs z in
+      subst (JoinRefused s n) (sym q) (bad-whole {fs = fs} (record { small = l; read = rw (take-length s) r; continued = ([], rw append-nil v) }) v (z ∙ ap (bad n) q))
 
   pub refused : {n p : ℕ} → joined s ≡ bad n p → JoinRefused s n p
   unfolding joined
   refused e =
       ⊎-elim
-      (λ z. rw (← z .1, ← z .2) (too-large (ltb-true _ _ (z .0))))
+      (λ z. rw (← z .1, ← z .2) (large (ltb-true _ _ (z .0))))
       (λ z. ⊎-elim (λ f. by-reading (ltb-false _ _ (z .0)) (stopped none 0 0 s (omega arith) f)) (λ f. by-checks (f .0) (ltb-false _ _ (z .0)) (f .1) (f .2)) (refused-step _ _ (z .1)))
       (refused-at _ _ _ _ e)

@@ -2,10 +2,10 @@
 use Prim.Native.Nat.{ℕ, _+_, _*_, _%_, _≤_, _<_}
 use mathlib.Core.Path.{_≡_}
 use mathlib.Core.Logic.{_↔_, _⊎_}
-use mathlib.Core.List.{List, [], _∷_, _++_, map}
+use mathlib.Core.List.{List, [], _∷_, _++_}
 use mathlib.Core.Option.{some}
 use lib.ListN.{length, take, drop}
-use Rattle.rules.specs.Outcome.{Outcome, good, bad, _>>=_, LENGTH, OPTION, STANDARD, PACKAGE, LARGE, COUNT, ROOM}
+use Rattle.rules.specs.Outcome.{good, bad, LENGTH, OPTION, STANDARD, PACKAGE, LARGE, COUNT, ROOM}
 use Rattle.refusal.specs.Numbers.{GAP}
 use Rattle.rules.specs.Bytes.{Bytes, join}
 use Rattle.rules.specs.Items.{items, All}
@@ -95,8 +95,8 @@ pub record SizeAllowed (size : ℕ) : Type 0 where
   pub words : size % 4 ≡ 0
 
 -- none of the options is 0x86
-abbrev pub WithoutOffset : List (List ℕ) → Type 0
-WithoutOffset options = All (λ (option : List ℕ). kindOf option ≡ 0x86 → ⊥) options
+abbrev pub OffsetAbsent : List (List ℕ) → Type 0
+OffsetAbsent options = All (λ (option : List ℕ). kindOf option ≡ 0x86 → ⊥) options
 
 -- q is the place of the first 0x86 among the options, the first of which stands at place p
 pub record OffsetAt (p : ℕ) (options : List (List ℕ)) (q : ℕ) : Type 0 where
@@ -104,23 +104,23 @@ pub record OffsetAt (p : ℕ) (options : List (List ℕ)) (q : ℕ) : Type 0 whe
   pub option : List ℕ
   pub behind : List (List ℕ)
   pub split : options ≡ before ++ (option ∷ behind)
-  pub none : WithoutOffset before
+  pub none : OffsetAbsent before
   pub kind : kindOf option ≡ 0x86
   pub place : q ≡ p + length (join before)
 
 -- s is not too large, and its first message passes every check and has the record m
-pub record Passes (s : List ℕ) (m : Message) : Type 0 where
+pub record FirstPasses (s : List ℕ) (m : Message) : Type 0 where
   pub small : length s ≤ mostBytes
-  pub bytes : ℕ
-  pub read : message 0 s ≡ good (m, bytes)
+  pub size : ℕ
+  pub read : message 0 s ≡ good (m, size)
 
 -- why cutting is refused, in the order of the tests, and at which place
 pub data CutRefused (size : ℕ) (s : List ℕ) : ℕ → ℕ → Type 0 where
   large : mostBytes < length s → CutRefused size s LARGE mostBytes
   bad-message : {n p : ℕ} → length s ≤ mostBytes → message 0 s ≡ bad n p → CutRefused size s n p
-  bad-size : {m : Message} → Passes s m → (SizeAllowed size → ⊥) → CutRefused size s LENGTH 0
-  has-offset : {m : Message} {p : ℕ} → Passes s m → SizeAllowed size → OffsetAt headerBytes (optionsOf (m .options)) p → CutRefused size s OPTION p
-  no-place : {m : Message} → Passes s m → SizeAllowed size → WithoutOffset (optionsOf (m .options)) → size < length (wholeOf m .payload)
+  bad-size : {m : Message} → FirstPasses s m → (SizeAllowed size → ⊥) → CutRefused size s LENGTH 0
+  has-offset : {m : Message} {p : ℕ} → FirstPasses s m → SizeAllowed size → OffsetAt headerBytes (optionsOf (m .options)) p → CutRefused size s OPTION p
+  no-place : {m : Message} → FirstPasses s m → SizeAllowed size → OffsetAbsent (optionsOf (m .options)) → size < length (wholeOf m .payload)
       → mostOptionBytes < length (m .options) + length (offsetOption 0) → CutRefused size s OPTION headerBytes
 
 -- Cutting is refused exactly so.
@@ -137,39 +137,9 @@ CutJoined = (size : ℕ) (s : List ℕ) (fs : List Fragment) → Bytes s → cut
 abbrev pub WholeJoined : Type 0
 WholeJoined = (s : List ℕ) → Bytes s → length s ≤ mostBytes → (m : Message) → message 0 s ≡ good (m, length s) → joined s ≡ cleanForm s
 
--- a fragment that passes checks 1 to 7, with the place where it stands; and the fragments alone
-unfoldable pub spot : ℕ → List ℕ → Outcome ((ℕ × Fragment) × ℕ)
-spot p s = do
-  (f, n) ← fragment p s
-  good ((p, f), n)
-
-abbrev pub fragmentsIn : List (ℕ × Fragment) → List Fragment
-fragmentsIn spots = map (λ (x : ℕ × Fragment). x .1) spots
-
 -- fs is the beginning of a whole set in order
 abbrev pub Continued : List Fragment → Type 0
 Continued fs = (more : List Fragment) × WholeSet (fs ++ more)
-
--- q is the place of the first fragment that does not continue those before it; or it is the end of s, where the last fragment is missing
-pub data GapAt (s : List ℕ) (spots : List (ℕ × Fragment)) (q : ℕ) : Type 0 where
-  at-fragment : (before after : List (ℕ × Fragment)) (f : Fragment) → spots ≡ before ++ ((q, f) ∷ after) → Continued (fragmentsIn before)
-      → (Continued (fragmentsIn before ++ (f ∷ [])) → ⊥) → GapAt s spots q
-  at-end : Continued (fragmentsIn spots) → (WholeSet (fragmentsIn spots) → ⊥) → q ≡ length s → GapAt s spots q
-
--- Of an input whose fragments all pass checks 1 to 7: GAP is given exactly where they are no whole set in order, and its place is the one that GapAt says;
--- where they are one, what they make up is cleaned.
-pub record GapExactly (s : List ℕ) (spots : List (ℕ × Fragment)) : Type 0 where
-  pub given : (WholeSet (fragmentsIn spots) → ⊥) → (q : ℕ) × (joined s ≡ bad GAP q) × GapAt s spots q
-  pub never : WholeSet (fragmentsIn spots) → (q : ℕ) → joined s ≡ bad GAP q → ⊥
-  pub only : WholeSet (fragmentsIn spots) → joined s ≡ cleanJoined (fragmentsIn spots)
-
-abbrev pub JoinGap : Type 0
-JoinGap = (s : List ℕ) (spots : List (ℕ × Fragment)) → Bytes s → length s ≤ mostBytes → items spot 0 0 s ≡ good spots → GapExactly s spots
-
--- What a whole set makes up is refused with STANDARD, PACKAGE or COUNT alone, at place 0.
-abbrev pub JoinRefusals : Type 0
-JoinRefusals = (s : List ℕ) (spots : List (ℕ × Fragment)) (n q : ℕ) → Bytes s → length s ≤ mostBytes → items spot 0 0 s ≡ good spots → WholeSet (fragmentsIn spots)
-    → cleanJoined (fragmentsIn spots) ≡ bad n q → ((n ≡ STANDARD) ⊎ (n ≡ PACKAGE) ⊎ (n ≡ COUNT)) × (q ≡ 0)
 
 -- s is not too large; the fragments in its first q bytes, fs, each pass checks 1 to 7, and they are the beginning of a whole set in order
 pub record InOrderTo (s : List ℕ) (q : ℕ) (fs : List Fragment) : Type 0 where
@@ -178,17 +148,25 @@ pub record InOrderTo (s : List ℕ) (q : ℕ) (fs : List Fragment) : Type 0 wher
   pub continued : Continued fs
 
 -- why joining is refused, and at which place: behind fragments in order, the next one does not pass checks 1 to 7, or does not continue them, or the last is missing;
--- or they are a whole set, and what they make up is refused
+-- or they are a whole set, and what they make up is refused, at place 0
 pub data JoinRefused (s : List ℕ) : ℕ → ℕ → Type 0 where
-  too-large : mostBytes < length s → JoinRefused s LARGE mostBytes
+  large : mostBytes < length s → JoinRefused s LARGE mostBytes
   bad-fragment : {q n p : ℕ} {fs : List Fragment} → InOrderTo s q fs → q < length s → fragment q (drop q s) ≡ bad n p → JoinRefused s n p
   gap : {q n : ℕ} {fs : List Fragment} {f : Fragment} → InOrderTo s q fs → fragment q (drop q s) ≡ good (f, n) → (Continued (fs ++ (f ∷ [])) → ⊥) → JoinRefused s GAP q
   last-missing : {fs : List Fragment} → InOrderTo s (length s) fs → (WholeSet fs → ⊥) → JoinRefused s GAP (length s)
-  bad-whole : {n p : ℕ} {fs : List Fragment} → InOrderTo s (length s) fs → WholeSet fs → cleanJoined fs ≡ bad n p → JoinRefused s n p
+  bad-whole : {n : ℕ} {fs : List Fragment} → InOrderTo s (length s) fs → WholeSet fs → cleanJoined fs ≡ bad n 0 → JoinRefused s n 0
 
 -- Joining is refused exactly so.
 abbrev pub JoinRefusedExactly : Type 0
 JoinRefusedExactly = (s : List ℕ) (n p : ℕ) → (joined s ≡ bad n p) ↔ JoinRefused s n p
+
+-- Of fragments that are a whole set, joining gives the clean form of what they make up, or its refusal.
+abbrev pub JoinWhole : Type 0
+JoinWhole = (s : List ℕ) (fs : List Fragment) → InOrderTo s (length s) fs → WholeSet fs → joined s ≡ cleanJoined fs
+
+-- That refusal is STANDARD, PACKAGE or COUNT alone, at place 0.
+abbrev pub JoinRefusals : Type 0
+JoinRefusals = (s : List ℕ) (fs : List Fragment) (n q : ℕ) → Bytes s → InOrderTo s (length s) fs → WholeSet fs → joined s ≡ bad n q → ((n ≡ STANDARD) ⊎ (n ≡ PACKAGE) ⊎ (n ≡ COUNT)) × (q ≡ 0)
 
 -- What is joined passes every check and is clean: it is its own clean form.
 abbrev pub JoinClean : Type 0
