@@ -2,7 +2,7 @@
 use Prim.Native.Nat.{ℕ, _+_, _-_, _*_, _%_, _≤_, _<_}
 use mathlib.Core.Path.{_≡_, refl, sym, ap, subst, _∙_}
 use mathlib.Core.Logic.{_⊎_, inl, inr, ⊎-elim}
-use mathlib.Core.Bool.{Bool, true, false, not, _&&_, _||_}
+use mathlib.Core.Bool.{Bool, true, false, not, _&&_, _||_, false≢true}
 use mathlib.Core.List.{List, [], _∷_, _++_, append-nil, append-assoc}
 use mathlib.Core.Option.{none, some}
 use native.Mathlib.Nat.{zero-add, add-assoc}
@@ -27,7 +27,7 @@ use Rattle.fragments.proofs.Again.{Valid}
 use Rattle.fragments.proofs.Readings.{Read, reads}
 use Rattle.fragments.proofs.From.{from-next, from-gap, from-stop, from-end, from-missing}
 use Rattle.fragments.proofs.Scan.{words-append, starts-few}
-use Rattle.fragments.proofs.Order.{either, says, false≢true}
+use Rattle.fragments.proofs.Order.{either, says}
 
 -- ---- a header that was read, and its fragment
 

@@ -2,7 +2,7 @@
 use Prim.Native.Nat.{ℕ, _+_, _≤_, _<_}
 use mathlib.Core.Path.{_≡_, refl, sym, ap, subst, _∙_}
 use mathlib.Core.Logic.{_⊎_, inl, inr, ⊎-elim}
-use mathlib.Core.Bool.{Bool, true, false, _&&_, _||_}
+use mathlib.Core.Bool.{Bool, true, false, _&&_, _||_, false≢true}
 use mathlib.Core.List.{List, [], _∷_, _++_, append-assoc}
 use mathlib.Core.Option.{Option, none, some}
 use native.Mathlib.Nat.{zero-add}
@@ -115,17 +115,6 @@ whole-alone f z (more {f = g} i r) = absurd (go i)
   where
     go : follows f g ≡ true → ⊥
     go i = ⊎-elim (λ y. omega arith) (λ y. omega arith) (goes-bits f (follows-goes f g i))
-
-pub false≢true : _≡_ {A = Bool} false true → ⊥
-false≢true e = let z : _≡_ {A = ℕ} 0 1 = ap (λ (b : Bool). elim b [ true ↦ 1 | false ↦ 0 ]) e in omega arith
-
-pub never-true : (b : Bool) → (b ≡ true → ⊥) → b ≡ false
-never-true true h = absurd (h refl)
-never-true false h = refl
-
-pub never-false : (b : Bool) → (b ≡ false → ⊥) → b ≡ true
-never-false true h = refl
-never-false false h = absurd (h refl)
 
 pub placed-set : {fs : List Fragment} → All Few fs → Placed none fs → WholeSet fs
 unfolding inPlace begins complete

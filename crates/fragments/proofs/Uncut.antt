@@ -2,7 +2,7 @@
 use Prim.Native.Nat.{ℕ, _+_, _%_, _<_}
 use mathlib.Core.Path.{_≡_, refl, sym, _∙_}
 use mathlib.Core.Logic.{⊎-elim}
-use mathlib.Core.Bool.{Bool, true, false, not, _||_}
+use mathlib.Core.Bool.{Bool, true, false, not, _||_, false≢true}
 use mathlib.Core.List.{List, [], _∷_, _++_}
 use native.Mathlib.Nat.{add-zero}
 use native.Mathlib.Omega.{arith}
@@ -18,8 +18,11 @@ use Rattle.rules.proofs.Outcomes.{pass, halt, after, step, stop, stop-before, p
 use Rattle.fragments.specs.Fragment.{Fragment, optionsOf, isOffset}
 use Rattle.fragments.specs.Cutting.{wholeOf, noOffset, fragmentsOf, cutWhole, cutInto}
 use Rattle.fragments.specs.Claims.{SizeAllowed, OffsetAbsent, OffsetAt, FirstPasses, CutRefused, large, bad-message, bad-size, has-offset, no-place}
-use Rattle.fragments.proofs.Order.{false≢true, never-false}
 use Rattle.fragments.proofs.Answering.{whole-full}
+
+never-false : (b : Bool) → (b ≡ false → ⊥) → b ≡ true
+never-false true h = refl
+never-false false h = absurd (h refl)
 
 -- ---- 0x86 among the options
 

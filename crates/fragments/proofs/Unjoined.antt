@@ -2,7 +2,7 @@
 use Prim.Native.Nat.{ℕ, zero, suc, _+_, _-_, _*_, _≤_}
 use mathlib.Core.Path.{_≡_, refl, sym, ap, subst, _∙_}
 use mathlib.Core.Logic.{⊎-elim}
-use mathlib.Core.Bool.{true, false, not}
+use mathlib.Core.Bool.{true, false, not, false≢true}
 use mathlib.Core.List.{List, [], _∷_, _++_, append-nil}
 use mathlib.Core.Option.{Option, none, some}
 use native.Mathlib.Nat.{add-zero, zero-add, add-suc, suc-add}
@@ -14,7 +14,7 @@ use Rattle.rules.specs.Outcome.{Outcome, good, bad, _>>=_, _∷>_}
 use Rattle.refusal.specs.Numbers.{GAP}
 use Rattle.rules.specs.Items.{items, All, all-nil, all-cons}
 use Rattle.rules.specs.Message.{mostBytes, head, payloadStart, checksOneToSix, optionRunLength}
-use Rattle.rules.proofs.Outcomes.{pass, halt, step, stop, stepped, fronted, front-of, came-after, passed, good-inj, bad-inj, good≢bad, refused-at, refused-step, refused-front}
+use Rattle.rules.proofs.Outcomes.{pass, halt, step, stop, stepped, fronted, front-of, came-after, passed, good-inj, bad-inj, good≢bad, never-true, refused-at, refused-step, refused-front}
 use Rattle.rules.proofs.Alone.{part-append, head-append}
 use Rattle.rules.proofs.Loops.{_++>_}
 use Rattle.rules.proofs.Passed.{sound}
@@ -22,7 +22,7 @@ use Rattle.fragments.specs.Fragment.{Fragment, fragmentOf, fragment}
 use Rattle.fragments.specs.Joining.{inPlace, complete, fragmentsFrom, atStart, cleanJoined, joined}
 use Rattle.fragments.specs.Claims.{WholeSet, Continued, InOrderTo, JoinRefused, large, bad-fragment, gap, last-missing, bad-whole}
 use Rattle.fragments.proofs.From.{from-gap, from-stop, from-end, from-missing}
-use Rattle.fragments.proofs.Order.{Placed, done, more, set-placed, Few, false≢true, never-true, placed-set, Chain, link-none, link, chain-placed, placed-chain, chain-few, continued, not-continued, bits-few, all-few}
+use Rattle.fragments.proofs.Order.{Placed, done, more, set-placed, Few, placed-set, Chain, link-none, link, chain-placed, placed-chain, chain-few, continued, not-continued, bits-few, all-few}
 use Rattle.fragments.proofs.Gathering.{short}
 
 -- ---- a fragment is read by its own bytes: what follows it changes nothing
