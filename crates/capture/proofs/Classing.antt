@@ -41,8 +41,8 @@ module _ (s : List ℕ) where
   unfolding oneMessage takes
   one-read m e =
       let w = of-record s 0 _ (sym e) in
-      let n : m .next ≡ 0 + m .header .length = w .next in
-      rw (w .read, n, zero-add)
+      let n : m .next ≡ 0 + m .header .length = w .5 in
+      rw (w .1, n, zero-add)
 
 -- ---- what the tests leave known
 

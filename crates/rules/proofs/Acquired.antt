@@ -92,7 +92,7 @@ kept ns ms a = rw (all-without ns) (kept-by (map rowOf ns) ms a)
 
 module _ (m : Message) (e : isSimulated (m .flags) ≡ true) where
   outside : {rows : List Row} → All (λ (r : Row). r .acquiredOnly ≡ true) rows → (k : Package) → Some (InRanges m k) rows → ⊥
-  outside (all-cons o a) k (here i) = omega (arith, eqb-true (m .flags / 8 % 2) 1 e, i .acquired o)
+  outside (all-cons o a) k (here i) = omega (arith, eqb-true (m .flags / 8 % 2) 1 e, i .6 o)
   outside (all-cons o a) k (there s) = outside a k s
 
   ungranted : {rows : List Row} → All (λ (r : Row). r .acquiredOnly ≡ true) rows → (k : Package) → granted rows m k ≡ false

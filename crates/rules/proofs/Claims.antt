@@ -5,25 +5,25 @@ use mathlib.Core.List.{List, [], _∷_, map}
 use native.Mathlib.Omega.{arith}
 use borrow.Author.Tests.{le-ltb}
 use lib.ListN.{length, length-append}
-use Rattle.rules.specs.Outcome.{Outcome, good, _>>=_, _>>_, ROOM}
-use Rattle.rules.specs.Bytes.{part, join}
-use Rattle.rules.specs.Message.{headerBytes, notLarge, Head, head, optionRunLength, Message, message, checksOneToNine, checksOneToTen, everyCheck}
+use Rattle.rules.specs.Outcome.{Outcome, good, _>>=_, _>>_}
+use Rattle.rules.specs.Bytes.{Bytes, part, join}
+use Rattle.rules.specs.Message.{headerBytes, notLarge, Head, head, payload, optionRunLength, Message, message, recording, checksOneToNine, checksOneToTen, everyCheck}
 use Rattle.rules.specs.Reading.{header, optionRun, packagesOf, checkedRecording}
 use Rattle.rules.specs.Buffer.{fitted, stored}
-use Rattle.rules.specs.Writer.{written, writer}
+use Rattle.rules.specs.Writer.{Draft, written, writer}
 use Rattle.rules.specs.Clean.{cleanForm, cleaner}
 use Rattle.rules.specs.Sheet.{Row}
-use Rattle.rules.specs.Copy.{Entry, packagesIn, Answer, releasedOf, reported, measurement, roomFor, answered, copy}
+use Rattle.rules.specs.Copy.{Entry, packagesIn, Answer, releasedOf, reported, measurement, roomFor, copy}
 use Rattle.rules.specs.Burst.{randomized, opening, randomizer, opener}
-use Rattle.rules.specs.Claims.{BuffersKept, PremisesMet, CountsChecked, OptionsExactly, CountExactly, WrittenRead, AcceptedValid, ReadValid, ReadWritten, PartsWritten, Writes, WholeRun, WriterWrites, WriterRefuses, CleanerWrites, CleanerRefuses, SpotOfRecord, SpotExactly, HeaderRefused, RefusalsExactly, CleanAlone, CleanTwice, CleanExactly, PackageExactly, WalkExactly, RowExactly, GrantedExactly, WindowsExactly, AcquiredOnly, RandomizerExactly, BurstExactly, OpeningRefused, SameCopies, DifferentCopies, CopyExactly, MeasuredFirst, SequenceCounted, ReleasedExactly, CopyPlain, TwoSheets, RowAdded, OneOutcome, Claims, partsOf}
+use Rattle.rules.specs.Claims.{BuffersKept, PremisesMet, RoundTrips, Writes, BuffersWritten, CleanExactly, ReadingExactly, WholeRun, OptionsExactly, CountExactly, PackageExactly, WalkExactly, RowExactly, GrantedExactly, WindowsExactly, AcquiredOnly, RandomizerExactly, BurstExactly, RefusalsExactly, SameCopies, DifferentCopies, CopyExactly, SequenceCounted, ReleasedExactly, CopyPlain, TwoSheets, RowAdded, OneOutcome, Claims}
 use Rattle.rules.proofs.Outcomes.{pass, passed, step, stepped, came-after, good-inj}
-use Rattle.rules.proofs.Reasons.{recording-refused, check-refused, header-refused, cleaning-refused, writing-refused, sheet-refused, rows-refused, release-refused, measure-refused, copy-refused}
+use Rattle.rules.proofs.Reasons.{recording-refused, check-refused, header-refused, cleaning-refused, writing-refused, sheet-refused, rows-refused, release-refused, release-roomless, measure-refused, copy-refused}
 use Rattle.rules.proofs.Kept.{careful-stored, careful-answered, kept-randomized, kept-opened, writes, roomless}
 use Rattle.rules.proofs.Cut as Cut
 use Rattle.rules.proofs.Passed.{sound, passes}
 use Rattle.rules.proofs.Alone as Alone
 use Rattle.rules.proofs.RoundTrip as RoundTrip
-use Rattle.rules.proofs.Writer.{accepts, accepted-valid, parts, parts-written, draft-refused, count-written}
+use Rattle.rules.proofs.Writer.{accepts, accepted-valid, parts, parts-written, draft-refused}
 use Rattle.rules.proofs.Refused.{exactly, count-read, count-right}
 use Rattle.rules.proofs.Wholes.{whole-run-by, option-stopped, fault-at, said-by}
 use Rattle.rules.proofs.Valids.{run-again}
@@ -36,11 +36,9 @@ use Rattle.rules.specs.Table.{Table}
 use Rattle.rules.proofs.Table.{table}
 use Rattle.rules.specs.Edges.{Edges}
 use Rattle.rules.proofs.Edges.{edges}
-use Rattle.rules.proofs.Growing.{copyMessages-snoc, released-append, granted-append, granted-one, granted-none, released-entry, released-none}
+use Rattle.rules.proofs.Growing.{copyMessages-snoc, released-append, released-entry, released-none}
 use Rattle.rules.proofs.Interference.{copy-is, delivered-is, same-copy, same-measurement, same-list, copy-short, copy-passes, copy-plain}
-use Rattle.rules.proofs.Nevers.{never-released}
 use Rattle.rules.proofs.Turns as Turns
-use Rattle.rules.proofs.Measured.{measured-roomless, measured-enough, measured-short, measured-refused, measured-alike}
 use Rattle.rules.proofs.Spots.{of-record, spot-read, spot-refused}
 use native.Mathlib.Nat.{zero-add, add-zero}
 
@@ -64,24 +62,16 @@ premises-met = record {
   draft = λ d i q t o p. record { id = i; sequence = q; seconds = t; options = o; packages = p };
 }
 
-pub written-read : WrittenRead
-written-read = RoundTrip.written-read
-
-pub accepted-is-valid : AcceptedValid
-accepted-is-valid d f m e = accepted-valid d f (accepts d e)
-
-pub read-valid : ReadValid
-read-valid = RoundTrip.read-valid
-
-pub read-written : ReadWritten
-read-written = RoundTrip.read-written
-
 -- the option run of a message that passes
 run-is : (s : List ℕ) (n : ℕ) → header s ≡ good (head s, n) → optionRun s ≡ part headerBytes (headerBytes + n) s
 unfolding optionRun
 run-is s n e = rw (e, optionRun)
 
-parts-are : (s : List ℕ) (r : ℕ × List (List ℕ)) → length s ≤ 65536 → everyCheck 0 s (head s) ≡ good r → partsOf s (head s) ≡ parts s r
+-- the parts of a message as they stand in its bytes
+abbrev partsOf : List ℕ → Draft
+partsOf s = record { flags = head s .flags; id = head s .id; sequence = head s .sequence; seconds = head s .seconds; nanos = head s .nanos; options = optionRun s; packages = payload s (head s) }
+
+parts-are : (s : List ℕ) (r : ℕ × List (List ℕ)) → length s ≤ 65536 → everyCheck 0 s (head s) ≡ good r → partsOf s ≡ parts s r
 unfolding everyCheck checksOneToTen checksOneToNine header
 parts-are s r l q =
     let (x, q, e) = stepped _ _ q in
@@ -94,47 +84,47 @@ parts-are s r l q =
     let z : m ≡ r .0 = good-inj p ∙ ap (λ (x : ℕ × List (List ℕ)). x .0) (good-inj q ∙ good-inj e) in
     rw (run-is s m h, z)
 
-pub parts-give-clean : PartsWritten
+parts-give-clean : (s : List ℕ) → Bytes s → length s ≤ 65536 → (m : Message) (n : ℕ) → message 0 s ≡ good (m, n) → written (partsOf s) ≡ cleanForm s
 unfolding message cleanForm
 parts-give-clean s b l m n e =
     let (r, q, z) = stepped _ _ e in
     ap written (parts-are s r l q) ∙ parts-written 0 s r b l (passes 0 s (head s) r q) ∙ sym (step _ _ q refl)
 
+pub round-trips : RoundTrips
+round-trips = record {
+  accepted-valid = λ d f m e. accepted-valid d f (accepts d e);
+  read-valid = RoundTrip.read-valid;
+  written-read = RoundTrip.written-read;
+  read-written = RoundTrip.read-written;
+  parts-written = parts-give-clean;
+}
+
 -- an outcome, stored: with room and without
 stores : (c : List ℕ) (o : Outcome (List ℕ)) → o ≡ good c → Writes c (λ (buffer : List ℕ). stored buffer (o >>= fitted buffer))
 stores c o e = record { room = λ buffer l. writes buffer c o e l; short = λ buffer l. roomless buffer c o e l }
 
-pub writer-writes : WriterWrites
-unfolding writer
-writer-writes d c e = stores c (written d) e
-
-pub writer-refuses : WriterRefuses
-writer-refuses = record { drafts = draft-refused; writer = writing-refused }
-
-pub cleaner-writes : CleanerWrites
-unfolding cleaner
-cleaner-writes s c h e = stores c (notLarge s >> cleanForm s) (pass _ _ _ _ (le-ltb 65536 (length s) h) e)
-
-pub spot-of-record : SpotOfRecord
-spot-of-record = of-record
-
-pub spot-exactly : SpotExactly
-spot-exactly = record { told = spot-read; refused = spot-refused }
-
-pub cleaner-refuses : CleanerRefuses
-cleaner-refuses = cleaning-refused
-
-pub header-is-refused : HeaderRefused
-header-is-refused = header-refused
-
-pub clean-alone : CleanAlone
-clean-alone = Alone.clean-alone
-
-pub clean-twice : CleanTwice
-clean-twice = RoundTrip.clean-twice
+pub buffers-written : BuffersWritten
+unfolding writer cleaner
+buffers-written = record {
+  writer = λ d c e. stores c (written d) e;
+  cleaner = λ s c h e. stores c (notLarge s >> cleanForm s) (pass _ _ _ _ (le-ltb 65536 (length s) h) e);
+}
 
 pub clean-exactly : CleanExactly
-clean-exactly = RoundTrip.clean-exactly
+clean-exactly = record { alone = Alone.clean-alone; twice = RoundTrip.clean-twice; equal = RoundTrip.clean-exactly }
+
+-- the packages of all messages, counted one by one and joined
+messages-joined : (ms : List Message) → packagesOf ms ≡ length (join (map (λ (m : Message). m .packages) ms))
+unfolding packagesOf
+messages-joined [] = refl
+messages-joined (m ∷ ms) = omega (arith, messages-joined ms, length-append (m .packages) (join (map (λ (m : Message). m .packages) ms)))
+
+counts-checked : (s : List ℕ) (ms : List Message) → recording s ≡ good ms → checkedRecording s ≡ good (length ms, length (join (map (λ (m : Message). m .packages) ms)))
+unfolding checkedRecording
+counts-checked s ms e = step _ _ e (rw (← messages-joined ms))
+
+pub reading-exactly : ReadingExactly
+reading-exactly = record { told = of-record; read = spot-read; refused = spot-refused; counted = counts-checked }
 
 pub package-exactly : PackageExactly
 package-exactly = record {
@@ -162,7 +152,7 @@ options-exactly = record {
 }
 
 pub count-exactly : CountExactly
-count-exactly = record { right = count-right; read = count-read; written = count-written }
+count-exactly = record { right = count-right; read = count-read }
 
 pub walk-exactly : WalkExactly
 walk-exactly = record { shows = walks-cut; stays = stays; large = walk-large; ended = λ s i l. ended s l i; refused = λ s i n p l. walk-refused s l i n p }
@@ -201,8 +191,22 @@ randomizer-exactly = record {
 pub burst-is : BurstExactly
 burst-is = burst-exactly
 
-pub opening-refused : OpeningRefused
-opening-refused = burst-refused
+pub refusals-exactly : RefusalsExactly
+refusals-exactly = record {
+  header = header-refused;
+  recording = recording-refused;
+  checked = check-refused;
+  sheet = sheet-refused;
+  rows = rows-refused;
+  opening = burst-refused;
+  drafts = draft-refused;
+  released = release-refused;
+  measured = measure-refused;
+  roomless = release-roomless;
+  copied = copy-refused;
+  writer = writing-refused;
+  cleaner = cleaning-refused;
+}
 
 pub table-holds : Table
 table-holds = table
@@ -219,16 +223,11 @@ pub different-copies : DifferentCopies
 different-copies recording recording′ sheet sheet′ buffer buffer′ b b′ es es′ r r′ l l′ differ e =
     differ (same-list recording recording′ sheet sheet′ buffer buffer′ b b′ es es′ r r′ l l′ e)
 
--- the packages of all entries, and of all messages, counted one by one and joined
+-- the packages of all entries, counted one by one and joined
 entries-joined : (es : List Entry) → packagesIn es ≡ length (join (map (λ (e : Entry). e .packages) es))
 unfolding packagesIn
 entries-joined [] = refl
 entries-joined (e ∷ es) = omega (arith, entries-joined es, length-append (e .packages) (join (map (λ (e : Entry). e .packages) es)))
-
-messages-joined : (ms : List Message) → packagesOf ms ≡ length (join (map (λ (m : Message). m .packages) ms))
-unfolding packagesOf
-messages-joined [] = refl
-messages-joined (m ∷ ms) = omega (arith, messages-joined ms, length-append (m .packages) (join (map (λ (m : Message). m .packages) ms)))
 
 pub copy-exactly : (recordingBytes sheetBytes : List ℕ) (es : List Entry) (list : releasedOf recordingBytes sheetBytes ≡ good es) → CopyExactly recordingBytes sheetBytes es list
 unfolding measurement reported
@@ -242,36 +241,13 @@ copy-exactly recordingBytes sheetBytes es list = record {
   short = λ b. copy-short recordingBytes sheetBytes es b list;
 }
 
-pub measured-first : (recording sheet : List ℕ) → MeasuredFirst recording sheet
-unfolding measurement copy answered
-measured-first recording sheet =
-    let o = releasedOf recording sheet in
-    record { roomless = measured-roomless o (never-released ROOM (λ n l o. o) recording sheet); enough = measured-enough o; short = measured-short o; refused = measured-refused o; alike = measured-alike o }
-
-pub counts-checked : CountsChecked
-unfolding checkedRecording
-counts-checked s ms e = step _ _ e (rw (← messages-joined ms))
-
-pub refusals-exactly : RefusalsExactly
-refusals-exactly = record {
-  recording = recording-refused;
-  checked = check-refused;
-  sheet = sheet-refused;
-  rows = rows-refused;
-  released = release-refused;
-  measured = measure-refused;
-  copied = copy-refused;
-}
-
 pub sequence-counted : SequenceCounted
 sequence-counted = copyMessages-snoc
 
 pub released-exactly : (rows : List Row) → ReleasedExactly rows
 released-exactly rows = record {
   messages = released-append rows;
-  packages = granted-append rows;
-  one = granted-one rows;
-  none = granted-none rows;
+  packages = Turns.passing-granted rows;
   entry = released-entry rows;
   silent = released-none rows;
 }
@@ -296,15 +272,12 @@ one-outcome A B told apart d a b p q = apart a b (p ∙ sym q)
 
 pub all-claims : Claims
 all-claims = record {
-  buffers = buffers-kept;
-  premises = (premises-met, accepted-is-valid, read-valid);
-  reading = (spot-of-record, spot-exactly, header-is-refused, counts-checked, refusals-exactly, options-exactly, count-exactly, package-exactly, walk-exactly);
-  writing = (written-read, read-written, parts-give-clean, writer-writes, writer-refuses);
-  cleaning = (cleaner-writes, cleaner-refuses, clean-alone, clean-twice, clean-exactly);
-  measuring = measured-first;
+  buffers = (buffers-kept, buffers-written);
+  reading = (reading-exactly, refusals-exactly, options-exactly, count-exactly, package-exactly, walk-exactly);
+  writing = (premises-met, round-trips, clean-exactly);
   granting = (row-exactly, granted-by-ranges, windows-exactly, acquired-only, released-exactly);
   copying = (copy-exactly, sequence-counted, copy-is-plain, two-sheets, row-added);
-  bursts = (randomizer-exactly, burst-is, opening-refused);
+  bursts = (randomizer-exactly, burst-is);
   silence = (same-copies, different-copies);
   outcomes = one-outcome;
   numbers = (table-holds, edges-hold);

@@ -70,28 +70,12 @@ module _ (m : Message) (k : Package) where
       let (e, c) = both _ _ e in
       let (e, d) = both _ _ e in
       let (f, g) = both _ _ e in
-      record {
-        message-first = leb-true _ _ f;
-        message-last = leb-true _ _ g;
-        package-first = leb-true _ _ d;
-        package-last = leb-true _ _ c;
-        start = leb-true _ _ b;
-        end = ltb-true _ _ a;
-        acquired = only (r .acquiredOnly) (m .flags) o;
-      }
+      (leb-true _ _ f, leb-true _ _ g, leb-true _ _ d, leb-true _ _ c, leb-true _ _ b, ltb-true _ _ a, only (r .acquiredOnly) (m .flags) o)
 
   by-ranges : (r : Row) → InRanges m k r → by r ≡ true
   unfolding grants
   by-ranges r i =
-      rw (
-        le-leb _ _ (i .message-first),
-        le-leb _ _ (i .message-last),
-        le-leb _ _ (i .package-first),
-        le-leb _ _ (i .package-last),
-        le-leb _ _ (i .start),
-        lt-ltb _ _ (i .end),
-        only-by (r .acquiredOnly) (m .flags) (i .acquired),
-      )
+      rw (le-leb _ _ (i .0), le-leb _ _ (i .1), le-leb _ _ (i .2), le-leb _ _ (i .3), le-leb _ _ (i .4), lt-ltb _ _ (i .5), only-by (r .acquiredOnly) (m .flags) (i .6))
 
   some-row : (rows : List Row) → granted rows m k ≡ true → Some (InRanges m k) rows
   unfolding granted
@@ -116,11 +100,11 @@ module _ (m : Message) (k : Package) where
 
   -- the time of a package that is granted by rows none of which ends behind the seam, and by rows none of which starts before it
   before : {rows : List Row} {seam : ℕ} → Some (InRanges m k) rows → All (λ (r : Row). endOf r ≤ seam) rows → time < seam
-  before (here i) (all-cons l a) = omega (arith, i .end)
+  before (here i) (all-cons l a) = omega (arith, i .5)
   before (there s) (all-cons l a) = before s a
 
   behind : {rows : List Row} {seam : ℕ} → Some (InRanges m k) rows → All (λ (r : Row). seam ≤ startOf r) rows → seam ≤ time
-  behind (here i) (all-cons l a) = omega (arith, i .start)
+  behind (here i) (all-cons l a) = omega (arith, i .4)
   behind (there s) (all-cons l a) = behind s a
 
   pub seam-once : (rows rows′ : List Row) (seam : ℕ) → All (λ (r : Row). endOf r ≤ seam) rows → All (λ (r : Row). seam ≤ startOf r) rows′

@@ -60,14 +60,6 @@ granted-alike rs rs′ m m′ h (k ∷ ks) = ap₂ (λ (b : Bool) (l : List Pack
 
 -- what one message releases
 module _ (rs : List Row) (m : Message) where
-  pub granted-one : (k : Package) → granted rs m k ≡ true → grantedPackages rs m (k ∷ []) ≡ k ∷ []
-  unfolding grantedPackages
-  granted-one k e = rw (e, grantedPackages)
-
-  pub granted-none : (k : Package) → granted rs m k ≡ false → grantedPackages rs m (k ∷ []) ≡ []
-  unfolding grantedPackages
-  granted-none k e = rw (e, grantedPackages)
-
   pub released-entry : (k : Package) (ks : List Package) → grantedPackages rs m (m .packages) ≡ k ∷ ks
       → released rs (m ∷ []) ≡ record { id = m .id; seconds = m .seconds; nanos = m .nanos; flags = m .flags / 2 % 8 * 2; packages = k ∷ ks } ∷ []
   unfolding released withEntryOf

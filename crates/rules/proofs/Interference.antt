@@ -15,7 +15,6 @@ use Rattle.rules.specs.Sheet.{Row}
 use Rattle.rules.specs.Writer.{write}
 use Rattle.rules.specs.Valid.{Valid}
 use Rattle.rules.specs.Copy.{Entry, listedBits, grantedPackages, withEntryOf, released, copyMessage, copyMessages, copyBytes, packagesIn, releasedOf, reported, measurement, roomFor, filled, answered, copy, delivered}
-use Rattle.rules.specs.Claims.{Plain}
 use Rattle.rules.proofs.Outcomes.{pass, step, passed, stepped, good-inj}
 use Rattle.rules.proofs.Measured.{room-for}
 use Rattle.rules.proofs.Kept.{take-sets}
@@ -100,9 +99,12 @@ copy-passes recordingBytes sheetBytes es b r =
     pass _ _ _ _ (le-ltb 65536 (length (copyBytes es)) (omega (arith, copy-short recordingBytes sheetBytes es b r))) (all-written-read (valid-list recordingBytes sheetBytes es r b) 0)
 
 -- each of those is plain: bits 3, 2 and 1 are all that is listed of the flags
+abbrev Plain : Message → Type 0
+Plain m = (m .options ≡ []) × (m .flags / 64 % 2 ≡ 1) × (m .flags % 2 ≡ 0)
+
 plain-copyMessage : (n : ℕ) (e : Entry) → e .flags % 2 ≡ 0 → e .flags < 16 → Plain (copyMessage n e)
 unfolding copyMessage
-plain-copyMessage n e h l = record { options = refl; playback = let g : (64 + e .flags) / 64 ≡ 1 = omega arith in rw g; end = omega arith }
+plain-copyMessage n e h l = let g : (64 + e .flags) / 64 ≡ 1 = omega arith in (refl, rw g, omega arith)
 
 record Even (e : Entry) : Type 0 where
   even : e .flags % 2 ≡ 0

@@ -1,7 +1,7 @@
 -- Why recordings, headers alone, cleaning, writing, sheets and copies are refused, and at which place.
-use Prim.Native.Nat.{ℕ, zero, _+_, _*_, _/_, _%_, _≤_, _<_}
+use Prim.Native.Nat.{ℕ, _+_, _*_, _/_, _%_, _≤_, _<_}
 use mathlib.Core.Path.{_≡_, refl, ap, sym, _∙_}
-use mathlib.Core.Logic.{_↔_, _⊎_, inl, inr, ⊎-elim}
+use mathlib.Core.Logic.{_↔_, ⊎-elim}
 use mathlib.Core.Bool.{Bool, true, false, not, _||_, false≢true}
 use mathlib.Core.List.{List, _++_}
 use native.Mathlib.Nat.{zero-add}
@@ -14,14 +14,14 @@ use Rattle.rules.specs.Outcome.{Outcome, good, bad, _>>=_, _>>_, OPTION,
 use Rattle.rules.specs.Items.{items}
 use Rattle.rules.specs.Message.{notLarge, head, optionRunLength, checksOneToNine, checksOneToTen, everyCheck, Message, message, recording}
 use Rattle.rules.specs.Reading.{header, checkedRecording}
-use Rattle.rules.specs.Buffer.{Written, fitted, stored}
+use Rattle.rules.specs.Buffer.{Written, unwritten, fitted, stored}
 use Rattle.rules.specs.Writer.{Draft, written, writer}
 use Rattle.rules.specs.Clean.{cleanForm, cleaner}
 use Rattle.rules.specs.Sheet.{Row, row, sheet, sheetRows}
 use Rattle.rules.specs.Copy.{Entry, copyBytes, releasedOf, Answer, refusal, reported, measurement, roomFor, filled, answered, copy}
-use Rattle.rules.specs.Claims.{CleaningRefused, WritingRefused, by-draft, BadRecording, large, bad-message, SheetSize, BadSheet, bad-size, bad-row, ReleaseRefused, by-sheet, by-recording, CopyRefused, by-release, no-room}
-use Rattle.rules.proofs.Outcomes.{pass, halt, step, stop, passed, neither, good≢bad, refused-at, refused-pass, refused-step, refused-only}
-use Rattle.rules.proofs.Stops.{Owns, Stopped, stopped, refused-behind}
+use Rattle.rules.specs.Claims.{BadRecording, large, bad-message, BadSheet, SheetSize, bad-size, bad-row, ReleaseRefused, by-sheet, by-recording, DraftRefused, CleaningRefused, Unstored, itself, no-room}
+use Rattle.rules.proofs.Outcomes.{pass, halt, step, stop, neither, good≢bad, refused-at, refused-pass, refused-step, refused-only}
+use Rattle.rules.proofs.Stops.{Owns, stopped, refused-behind}
 use Rattle.rules.proofs.Gives.{numbered-message, header-numbered, message-early}
 use Rattle.rules.proofs.Writer.{draft-refused, draft-numbered}
 use Rattle.rules.proofs.Nevers.{never-released}
@@ -88,71 +88,76 @@ header-refused s n p l =
       λ w. pass _ _ _ _ small (stop _ _ (message-early s .given n p (w .1) (w .0))),
     )
 
--- ---- what is written into a buffer: the cleaner and the writer
+-- ---- what goes into a buffer
 
-module _ (buffer : List ℕ) (o : Outcome (List ℕ)) where
-  -- an outcome is refused, or has no room
-  unfitted : {n p : ℕ} → (o >>= fitted buffer) ≡ bad n p → (o ≡ bad n p) ⊎ ((c : List ℕ) × (o ≡ good c) × (length buffer < length c) × (ROOM ≡ n) × (length c ≡ p))
-  unfolding fitted
-  unfitted e =
-      ⊎-elim inl
-      (λ g. ⊎-elim (λ z. inr (g .0, g .1, ltb-true (length buffer) (length (g .0)) (z .0), z .1, z .2)) (λ z. absurd (good≢bad (sym z))) (refused-pass _ _ _ _ (g .2)))
-      (refused-step _ _ e)
+module _ {A : Type 0} (Refused : ℕ → ℕ → Type 0) (o : Outcome A) (refused : (n p : ℕ) → (o ≡ bad n p) ↔ Refused n p) (bytesOf : A → List ℕ) (buffer : List ℕ) where
+  -- what is made of the bytes is refused exactly where they have no room
+  module _ {B : Type 0} (next : A → Outcome B) (only : (a : A) (n p : ℕ) → (next a ≡ bad n p) ↔ (fitted buffer (bytesOf a) ≡ bad n p)) where
+    unstored-there : {n p : ℕ} → (o >>= next) ≡ bad n p → Unstored Refused o bytesOf buffer n p
+    unfolding fitted
+    unstored-there {n} {p} e =
+        ⊎-elim (λ b. itself (refused n p .0 b)) (λ g.
+        ⊎-elim (λ z. rw (← z .1, ← z .2) (no-room (g .1) (ltb-true (length buffer) (length (bytesOf (g .0))) (z .0)))) (λ z. absurd (good≢bad (sym z)))
+        (refused-pass _ _ _ _ (only (g .0) n p .0 (g .2))))
+        (refused-step _ _ e)
 
-  unroomed : {c : List ℕ} → o ≡ good c → length buffer < length c → (o >>= fitted buffer) ≡ bad ROOM (length c)
-  unfolding fitted
-  unroomed {c} e l = step _ _ e (halt _ _ _ _ (lt-ltb (length buffer) (length c) l))
+    unstored-back : {n p : ℕ} → Unstored Refused o bytesOf buffer n p → (o >>= next) ≡ bad n p
+    unfolding fitted
+    unstored-back {n} {p} (itself r) = stop _ _ (refused n p .1 r)
+    unstored-back (no-room {a = a} g l) = step _ _ g (only a ROOM (length (bytesOf a)) .1 (halt _ _ _ _ (lt-ltb (length buffer) (length (bytesOf a)) l)))
 
--- what is stored with a number that is not 0 is a refusal
-stored-bad : (buffer : List ℕ) (o : Outcome (List ℕ)) {n p : ℕ} → (n ≡ 0 → ⊥) → stored buffer o ≡ (record { number = n; place = p; bytes = 0 }, buffer) → o ≡ bad n p
-unfolding stored
-stored-bad buffer (bad m q) h e = rw (ap (λ (w : Written × List ℕ). w .0 .number) e, ap (λ (w : Written × List ℕ). w .0 .place) e)
-stored-bad buffer (good c) h e = absurd (h (sym (ap (λ (w : Written × List ℕ). w .0 .number) e)))
+    unstored : (n p : ℕ) → ((o >>= next) ≡ bad n p) ↔ Unstored Refused o bytesOf buffer n p
+    unstored n p = (unstored-there, unstored-back)
 
-module _ (s buffer : List ℕ) where
-  cleaning-there : {n p : ℕ} → ((notLarge s >> cleanForm s) >>= fitted buffer) ≡ bad n p → CleaningRefused s buffer n p
+  -- no reason has the number 0, if none of those has
+  numbered : ((n p : ℕ) → Refused n p → n ≡ 0 → ⊥) → {n p : ℕ} → Unstored Refused o bytesOf buffer n p → n ≡ 0 → ⊥
+  numbered h {n} {p} (itself r) z = h n p r z
+  numbered h (no-room g l) z = omega arith
+
+-- an answer that tells success by 0 and a refusal by its number and place tells any other number of a refusal alone
+told-bad : {A : Type 0} (number place : Outcome A → ℕ) → ((a : A) → number (good a) ≡ 0) → ((n p : ℕ) → (number (bad n p) ≡ n) × (place (bad n p) ≡ p))
+    → (o : Outcome A) {n p : ℕ} → (n ≡ 0 → ⊥) → number o ≡ n → place o ≡ p → o ≡ bad n p
+told-bad number place passes tells (bad m q) h e f = rw (← e, ← f, tells m q .0, tells m q .1)
+told-bad number place passes tells (good a) h e f = absurd (h (sym e ∙ passes a))
+
+-- ---- the cleaner and the writer
+
+module _ (Refused : ℕ → ℕ → Type 0) (o : Outcome (List ℕ)) (refused : (n p : ℕ) → (o ≡ bad n p) ↔ Refused n p) (other : (n p : ℕ) → Refused n p → n ≡ 0 → ⊥) (buffer : List ℕ) where
+  storing-refused : (n p : ℕ) → ((n ≡ 0 → ⊥) × (stored buffer (o >>= fitted buffer) ≡ (unwritten n p, buffer))) ↔ Unstored Refused o (λ c. c) buffer n p
+  unfolding stored
+  storing-refused n p =
+      let exactly = unstored Refused o refused (λ c. c) buffer (fitted buffer) (λ c n p. (λ e. e, λ e. e)) n p in (
+        λ e.
+            exactly .0 (told-bad (λ (r : Outcome (List ℕ)). stored buffer r .0 .number) (λ (r : Outcome (List ℕ)). stored buffer r .0 .place) (λ c. refl) (λ n p. (refl, refl)) (o >>= fitted buffer) (e .0)
+            (ap (λ (w : Written × List ℕ). w .0 .number) (e .1)) (ap (λ (w : Written × List ℕ). w .0 .place) (e .1))),
+        λ u. (numbered Refused o refused (λ c. c) buffer other u, ap (stored buffer) (exactly .1 u)),
+      )
+
+module _ (s : List ℕ) where
+  cleaning-there : {n p : ℕ} → (notLarge s >> cleanForm s) ≡ bad n p → CleaningRefused s n p
   unfolding message cleanForm
   cleaning-there e =
       ⊎-elim
-      (λ b.
-      ⊎-elim
       (λ z. rw (← z .1, ← z .2) (large (ltb-true 65536 (length s) (z .0))))
       (λ z. bad-message (ltb-false 65536 (length s) (z .0)) (stop _ _ (refused-only _ _ (z .1))))
-      (refused-at _ _ _ _ b))
-      (λ g. let (l, f) = passed _ _ _ _ (g .1) in rw (← g .3, ← g .4) (no-room (ltb-false 65536 (length s) l) f (g .2)))
-      (unfitted buffer (notLarge s >> cleanForm s) e)
+      (refused-at _ _ _ _ e)
 
-  cleaning-back : {n p : ℕ} → CleaningRefused s buffer n p → ((notLarge s >> cleanForm s) >>= fitted buffer) ≡ bad n p
+  cleaning-back : {n p : ℕ} → CleaningRefused s n p → (notLarge s >> cleanForm s) ≡ bad n p
   unfolding message cleanForm
-  cleaning-back (large l) = stop _ _ (halt _ _ _ _ (lt-ltb 65536 (length s) l))
-  cleaning-back (bad-message l e) = stop _ _ (pass _ _ _ _ (le-ltb 65536 (length s) l) (stop _ _ (refused-only _ _ e)))
-  cleaning-back (no-room l e h) = unroomed buffer (notLarge s >> cleanForm s) (pass _ _ _ _ (le-ltb 65536 (length s) l) e) h
+  cleaning-back (large l) = halt _ _ _ _ (lt-ltb 65536 (length s) l)
+  cleaning-back (bad-message l e) = pass _ _ _ _ (le-ltb 65536 (length s) l) (stop _ _ (refused-only _ _ e))
 
-  cleaning-numbered : {n p : ℕ} → CleaningRefused s buffer n p → n ≡ 0 → ⊥
+  cleaning-numbered : {n p : ℕ} → CleaningRefused s n p → n ≡ 0 → ⊥
   cleaning-numbered (large l) z = omega arith
   cleaning-numbered (bad-message {n = n} {p = p} l e) z = omega (arith, numbered-message 0 s .given n p e)
-  cleaning-numbered (no-room l e h) z = omega arith
 
-  pub cleaning-refused : (n p : ℕ) → ((n ≡ 0 → ⊥) × (cleaner s buffer ≡ (record { number = n; place = p; bytes = 0 }, buffer))) ↔ CleaningRefused s buffer n p
-  unfolding cleaner stored
-  cleaning-refused n p =
-      (λ e. cleaning-there (stored-bad buffer ((notLarge s >> cleanForm s) >>= fitted buffer) (e .0) (e .1)), λ u. (cleaning-numbered u, ap (stored buffer) (cleaning-back u)))
+  pub cleaning-refused : (buffer : List ℕ) (n p : ℕ) → ((n ≡ 0 → ⊥) × (cleaner s buffer ≡ (unwritten n p, buffer))) ↔ Unstored (CleaningRefused s) (notLarge s >> cleanForm s) (λ c. c) buffer n p
+  unfolding cleaner
+  cleaning-refused buffer n p = storing-refused (CleaningRefused s) (notLarge s >> cleanForm s) (λ n p. (cleaning-there, cleaning-back)) (λ n p. cleaning-numbered) buffer n p
 
-module _ (d : Draft) (buffer : List ℕ) where
-  writing-there : {n p : ℕ} → (written d >>= fitted buffer) ≡ bad n p → WritingRefused d buffer n p
-  writing-there {n} {p} e = ⊎-elim (λ b. by-draft (draft-refused d n p .0 b)) (λ g. rw (← g .3, ← g .4) (no-room (g .1) (g .2))) (unfitted buffer (written d) e)
-
-  writing-back : {n p : ℕ} → WritingRefused d buffer n p → (written d >>= fitted buffer) ≡ bad n p
-  writing-back {n} {p} (by-draft r) = stop _ _ (draft-refused d n p .1 r)
-  writing-back (no-room e l) = unroomed buffer (written d) e l
-
-  writing-numbered : {n p : ℕ} → WritingRefused d buffer n p → n ≡ 0 → ⊥
-  writing-numbered (by-draft r) z = draft-numbered d r z
-  writing-numbered (no-room e l) z = omega arith
-
-  pub writing-refused : (n p : ℕ) → ((n ≡ 0 → ⊥) × (writer d buffer ≡ (record { number = n; place = p; bytes = 0 }, buffer))) ↔ WritingRefused d buffer n p
-  unfolding writer stored
-  writing-refused n p = (λ e. writing-there (stored-bad buffer (written d >>= fitted buffer) (e .0) (e .1)), λ u. (writing-numbered u, ap (stored buffer) (writing-back u)))
+pub writing-refused : (d : Draft) (buffer : List ℕ) (n p : ℕ) → ((n ≡ 0 → ⊥) × (writer d buffer ≡ (unwritten n p, buffer))) ↔ Unstored (DraftRefused d) (written d) (λ c. c) buffer n p
+unfolding writer
+writing-refused d buffer n p = storing-refused (DraftRefused d) (written d) (draft-refused d) (λ n p. draft-numbered d) buffer n p
 
 -- ---- a sheet
 
@@ -174,11 +179,11 @@ row-owns p s r n f l e =
 
 -- the test of a sheet's size
 size-test : (s : List ℕ) → SheetSize s → (ltb 1024 (length s) || not (eqb (length s % 32) 0)) ≡ false
-size-test s w = rw (le-ltb 1024 (length s) (w .most), eq-eqb (length s % 32) 0 (w .rows))
+size-test s w = rw (le-ltb 1024 (length s) (w .0), eq-eqb (length s % 32) 0 (w .1))
 
 no-size : (s : List ℕ) → (SheetSize s → ⊥) → (a : Bool) → ltb 1024 (length s) ≡ a → (b : Bool) → eqb (length s % 32) 0 ≡ b → (a || not b) ≡ true
 no-size s h true x b y = refl
-no-size s h false x true y = absurd (h (record { most = ltb-false 1024 (length s) x; rows = eqb-true _ _ y }))
+no-size s h false x true y = absurd (h (ltb-false 1024 (length s) x, eqb-true _ _ y))
 no-size s h false x false y = refl
 
 -- a row is refused as ROW, where it stands
@@ -199,7 +204,7 @@ sheet-there s e =
     let c : length s % 32 ≡ 0 = eqb-true _ _ (not-false _ b) in
     let w = stopped row Whole refl row-owns 0 s c (z .1) in
     let k : length (w .front) / 32 * 32 ≡ length (w .front) = omega (arith, w .whole) in
-    row-stopped s (length (w .front) / 32) {before = w .before} (record { most = ltb-false 1024 (length s) a; rows = c })
+    row-stopped s (length (w .front) / 32) {before = w .before} (ltb-false 1024 (length s) a, c)
     (rw k (ap (items row 0 0) (front-is (w .front) (w .behind) s (w .split)) ∙ w .passes)) (rw k (between (w .front) (w .behind) s (w .split) (w .some)))
     (rw k (ap (row (length (w .front))) (behind-is (w .front) (w .behind) s (w .split)) ∙ rw zero-add at (w .refused))))
     (refused-at _ _ _ _ e)
@@ -222,6 +227,11 @@ rows-refused s n p = (λ e. sheet-there s (refused-only _ _ e), λ b. stop _ _ (
 
 -- ---- a copy
 
+reported-bad : (o : Outcome (List Entry)) {n p : ℕ} → (n ≡ 0 → ⊥) → reported o ≡ refusal n p → o ≡ bad n p
+unfolding reported
+reported-bad o h e =
+    told-bad (λ (r : Outcome (List Entry)). reported r .number) (λ (r : Outcome (List Entry)). reported r .place) (λ es. refl) (λ n p. (refl, refl)) o h (ap (λ (a : Answer). a .number) e) (ap (λ (a : Answer). a .place) e)
+
 module _ (recordingBytes sheetBytes : List ℕ) where
   released-there : {n p : ℕ} → releasedOf recordingBytes sheetBytes ≡ bad n p → ReleaseRefused recordingBytes sheetBytes n p
   unfolding releasedOf
@@ -236,24 +246,6 @@ module _ (recordingBytes sheetBytes : List ℕ) where
   released-back (by-sheet b) = stop _ _ (sheet-back sheetBytes b)
   released-back (by-recording g b) = step _ _ g (stop _ _ (recording-back recordingBytes b))
 
-  copied-there : (buffer : List ℕ) {n p : ℕ} → (releasedOf recordingBytes sheetBytes >>= roomFor buffer) ≡ bad n p → CopyRefused recordingBytes sheetBytes buffer n p
-  unfolding roomFor fitted
-  copied-there buffer {n} {p} e =
-      ⊎-elim
-      (λ b. by-release (released-there b))
-      (λ g.
-      let r : fitted buffer (copyBytes (g .0)) ≡ bad n p = refused-only _ _ (g .2) in
-      ⊎-elim
-      (λ z. rw (← z .1, ← z .2) (no-room (g .1) (ltb-true (length buffer) (length (copyBytes (g .0))) (z .0))))
-      (λ z. absurd (good≢bad (sym z)))
-      (refused-pass _ _ _ _ r))
-      (refused-step _ _ e)
-
-  copied-back : (buffer : List ℕ) {n p : ℕ} → CopyRefused recordingBytes sheetBytes buffer n p → (releasedOf recordingBytes sheetBytes >>= roomFor buffer) ≡ bad n p
-  unfolding roomFor fitted
-  copied-back buffer (by-release u) = stop _ _ (released-back u)
-  copied-back buffer (no-room {es = es} g l) = step _ _ g (stop _ _ (halt _ _ _ _ (lt-ltb (length buffer) (length (copyBytes es)) l)))
-
   pub release-refused : (n p : ℕ) → (releasedOf recordingBytes sheetBytes ≡ bad n p) ↔ ReleaseRefused recordingBytes sheetBytes n p
   release-refused n p = (released-there, released-back)
 
@@ -261,26 +253,18 @@ module _ (recordingBytes sheetBytes : List ℕ) where
   release-numbered : {n p : ℕ} → ReleaseRefused recordingBytes sheetBytes n p → n ≡ 0 → ⊥
   release-numbered {p = p} u z = never-released 0 (λ n l o e. omega arith) recordingBytes sheetBytes .given p (rw z at (released-back u))
 
-  copy-numbered : (buffer : List ℕ) {n p : ℕ} → CopyRefused recordingBytes sheetBytes buffer n p → n ≡ 0 → ⊥
-  copy-numbered buffer (by-release u) z = release-numbered u z
-  copy-numbered buffer (no-room g l) z = omega arith
+  pub release-roomless : (p : ℕ) → ReleaseRefused recordingBytes sheetBytes ROOM p → ⊥
+  release-roomless p u = never-released ROOM (λ n l o. o) recordingBytes sheetBytes .given p (released-back u)
 
--- a report with a number that is not 0 is that of a refusal
-reported-bad : (o : Outcome (List Entry)) {n p : ℕ} → (n ≡ 0 → ⊥) → reported o ≡ refusal n p → o ≡ bad n p
-unfolding reported
-reported-bad (bad m q) h e = rw (ap (λ (a : Answer). a .number) e, ap (λ (a : Answer). a .place) e)
-reported-bad (good es) h e = absurd (h (sym (ap (λ (a : Answer). a .number) e)))
+  pub measure-refused : (n p : ℕ) → ((n ≡ 0 → ⊥) × (measurement recordingBytes sheetBytes ≡ refusal n p)) ↔ ReleaseRefused recordingBytes sheetBytes n p
+  unfolding measurement reported
+  measure-refused n p = (λ e. released-there (reported-bad (releasedOf recordingBytes sheetBytes) (e .0) (e .1)), λ u. (release-numbered u, ap reported (released-back u)))
 
-pub measure-refused : (recordingBytes sheetBytes : List ℕ) (n p : ℕ) → ((n ≡ 0 → ⊥) × (measurement recordingBytes sheetBytes ≡ refusal n p)) ↔ ReleaseRefused recordingBytes sheetBytes n p
-unfolding measurement reported
-measure-refused recordingBytes sheetBytes n p = (
-  λ e. released-there recordingBytes sheetBytes (reported-bad (releasedOf recordingBytes sheetBytes) (e .0) (e .1)),
-  λ u. (release-numbered recordingBytes sheetBytes u, ap reported (released-back recordingBytes sheetBytes u)),
-)
-
-pub copy-refused : (recordingBytes sheetBytes buffer : List ℕ) (n p : ℕ) → ((n ≡ 0 → ⊥) × (copy recordingBytes sheetBytes buffer ≡ (refusal n p, buffer))) ↔ CopyRefused recordingBytes sheetBytes buffer n p
-unfolding copy answered reported filled
-copy-refused recordingBytes sheetBytes buffer n p = (
-  λ e. copied-there recordingBytes sheetBytes buffer (reported-bad (releasedOf recordingBytes sheetBytes >>= roomFor buffer) (e .0) (ap (λ (a : Answer × List ℕ). a .0) (e .1))),
-  λ u. (copy-numbered recordingBytes sheetBytes buffer u, ap (answered buffer) (copied-back recordingBytes sheetBytes buffer u)),
-)
+  pub copy-refused : (buffer : List ℕ) (n p : ℕ) → ((n ≡ 0 → ⊥) × (copy recordingBytes sheetBytes buffer ≡ (refusal n p, buffer)))
+      ↔ Unstored (ReleaseRefused recordingBytes sheetBytes) (releasedOf recordingBytes sheetBytes) copyBytes buffer n p
+  unfolding copy answered reported filled roomFor
+  copy-refused buffer n p =
+      let exactly = unstored (ReleaseRefused recordingBytes sheetBytes) (releasedOf recordingBytes sheetBytes) release-refused copyBytes buffer (roomFor buffer) (λ es n p. (λ e. refused-only _ _ e, λ e. stop _ _ e)) n p in (
+        λ e. exactly .0 (reported-bad (releasedOf recordingBytes sheetBytes >>= roomFor buffer) (e .0) (ap (λ (a : Answer × List ℕ). a .0) (e .1))),
+        λ u. (numbered (ReleaseRefused recordingBytes sheetBytes) (releasedOf recordingBytes sheetBytes) release-refused copyBytes buffer (λ n p. release-numbered) u, ap (answered buffer) (exactly .1 u)),
+      )

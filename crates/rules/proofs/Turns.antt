@@ -21,7 +21,7 @@ use Rattle.rules.proofs.Outcomes.{step, stepped, good-inj}
 use Rattle.rules.proofs.Nevers.{Never, never-released}
 use Rattle.rules.proofs.Measured.{no-room-for}
 use Rattle.rules.proofs.Growing.{granted-alike}
-use Rattle.rules.proofs.Interference.{same-copy, same-measurement, delivered-is, copy-passes}
+use Rattle.rules.proofs.Interference.{delivered-is, copy-passes}
 use Rattle.rules.proofs.Joined.{sheet-joined, added}
 
 -- ---- what the copy keeps of a message is what a grant looks at
@@ -69,7 +69,7 @@ unfolding releasedBy
 alike t u h [] = refl
 alike t u h (m ∷ ms) = ap₂ (withEntryOf m) (passing-alike (t m) (u m) (h m) (m .packages)) (alike t u h ms)
 
-passing-granted : (rs : List Row) (m : Message) (ps : List Package) → grantedPackages rs m ps ≡ passing (granted rs m) ps
+pub passing-granted : (rs : List Row) (m : Message) (ps : List Package) → grantedPackages rs m ps ≡ passing (granted rs m) ps
 unfolding grantedPackages
 passing-granted rs m [] = refl
 passing-granted rs m (p ∷ ps) = ap (keep p (granted rs m p)) (passing-granted rs m ps)
@@ -197,10 +197,9 @@ module _ (r : List ℕ) (b : Bytes r) (ms : List Message) (passes : recording r 
       let own : releasedOf c s ≡ releasedOf r s = under-own s c h rs v in
       record {
         both = one;
-        equal = same-copy c d t s turned;
-        measured = same-measurement c d t s turned;
+        turned = turned;
         delivered = λ e f x y. copied-of c t e _ one x ∙ sym (copied-of d s f _ (sym turned ∙ one) y);
-        again = same-copy c r s s own;
+        again = own;
         own = λ e x. copied-of c s e _ (own ∙ list-is r s rs ms v passes) x ∙ sym (copied-of r s c _ (list-is r s rs ms v passes) h);
         joined = λ l. list-is r (s ++ t) (rs ++ qs) ms (sheet-joined s t v w l) passes ∙ ap good (either-joined rs qs ms);
       }

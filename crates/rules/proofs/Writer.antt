@@ -16,7 +16,7 @@ use Rattle.rules.specs.Packages.{cut, packageOf, pieceOf, Piece}
 use Rattle.rules.specs.Message.{head, payloadStart, Message, recordOf}
 use Rattle.rules.specs.Clean.{cleanBytes}
 use Rattle.rules.specs.Valid.{Valid, DraftFits}
-use Rattle.rules.specs.Claims.{WholeRun, SaysOther, draftBytes, DraftSizes, DraftRefused, large, bad-time, long-run, bad-option, zero-option, bad-package, bad-count}
+use Rattle.rules.specs.Claims.{WholeRun, draftBytes, DraftSizes, DraftRefused, large, bad-time, long-run, bad-option, zero-option, bad-package, bad-count}
 use Rattle.rules.specs.Writer.{Draft, drafted, accepted, written}
 use Rattle.rules.proofs.Outcomes.{pass, halt, step, stop, passed, stepped, good-inj, good≢bad, refused-at, refused-step, refused-only}
 use Rattle.rules.proofs.Cut as Cut
@@ -124,7 +124,7 @@ drafted-there d e =
     ⊎-elim (λ z. rw (← z .1, ← z .2) (bad-time size (ltb-true _ _ (z .0)))) (λ b.
     let nanos = ltb-false _ _ (b .0) in
     ⊎-elim (λ z. rw (← z .1, ← z .2) (long-run size nanos (ltb-true _ _ (z .0)))) (λ c.
-    let sizes : DraftSizes d = record { message = size; nanos = nanos; run = ltb-false _ _ (c .0) } in
+    let sizes : DraftSizes d = (size, nanos, ltb-false _ _ (c .0)) in
     ⊎-elim (λ z. let m = option-stopped 0 (d .options) z .number in rw m (bad-option sizes (rw m at z))) (λ r.
     ⊎-elim (λ z. rw (← z .1, ← z .2) (zero-option sizes (r .1) (ltb-true _ _ (z .0)))) (λ g.
     let whole : WholeRun (d .options) = whole-run-by (d .options) .0 (whole-run (d .options) (r .0) (r .1) (ltb-false _ _ (g .0))) in
@@ -144,9 +144,9 @@ module _ (d : Draft) where
   behind-sizes : DraftSizes d → {o : Outcome Message} → optionChecks ≡ o → accepted d ≡ o
   unfolding accepted
   behind-sizes w e =
-      pass _ _ _ _ (le-ltb 65536 (draftBytes d) (w .message))
-      (pass _ _ _ _ (le-ltb 999999999 (d .nanos) (w .nanos))
-      (pass _ _ _ _ (le-ltb 60 (length (d .options)) (w .run)) e))
+      pass _ _ _ _ (le-ltb 65536 (draftBytes d) (w .0))
+      (pass _ _ _ _ (le-ltb 999999999 (d .nanos) (w .1))
+      (pass _ _ _ _ (le-ltb 60 (length (d .options)) (w .2)) e))
 
   behind-run : DraftSizes d → WholeRun (d .options) → {o : Outcome Message} → packageChecks ≡ o → accepted d ≡ o
   behind-run w r e = behind-sizes w (step _ _ (whole-run-by (d .options) .1 r) (pass _ _ _ _ (le-ltb (length (d .options)) (length (d .options)) (omega arith)) e))
@@ -175,26 +175,3 @@ draft-numbered d (bad-option w h) e = omega arith
 draft-numbered d (zero-option w h l) e = omega arith
 draft-numbered d (bad-package w r h) e = omega arith
 draft-numbered d (bad-count w r f o) e = omega arith
-
--- all that the writer checks before COUNT passes, and the option run says another number than that of the packages
-abbrev Miscounts : Draft → ℕ → Type 0
-Miscounts d q = (q ≡ 0) × (24 + pad (length (d .options)) + length (d .packages) ≤ 65536) × (d .nanos ≤ 999999999) × (length (d .options) ≤ 60) × WholeRun (d .options)
-    × ((cs : List (List ℕ)) × Fills Piece cs (d .packages) × SaysOther (d .options) (length cs))
-
--- COUNT is the last refusal before ROOM, and those before it have other numbers
-miscounts : (d : Draft) {n q : ℕ} → DraftRefused d n q → n ≡ COUNT → Miscounts d q
-miscounts d (large l) e = absurd (omega arith)
-miscounts d (bad-time l h) e = absurd (omega arith)
-miscounts d (long-run l t h) e = absurd (omega arith)
-miscounts d (bad-option w h) e = absurd (omega arith)
-miscounts d (zero-option w h l) e = absurd (omega arith)
-miscounts d (bad-package w r h) e = absurd (omega arith)
-miscounts d (bad-count {pieces = cs} w r f o) e = (refl, w .message, w .nanos, w .run, r, (cs, f, o))
-
-miscounted : (d : Draft) (q : ℕ) → Miscounts d q → DraftRefused d COUNT q
-miscounted d q m =
-    let (z, a, b, c, r, w) = m in
-    rw z (bad-count {pieces = w .0} (record { message = a; nanos = b; run = c }) r (w .1) (w .2))
-
-pub count-written : (d : Draft) (q : ℕ) → (written d ≡ bad COUNT q) ↔ Miscounts d q
-count-written d q = (λ e. miscounts d (draft-refused d COUNT q .0 e) refl, λ m. draft-refused d COUNT q .1 (miscounted d q m))

@@ -18,7 +18,11 @@ pub record Written : Type 0 where
   pub place : ℕ
   pub bytes : ℕ
 
+-- nothing written, and a number and a place
+abbrev pub unwritten : ℕ → ℕ → Written
+unwritten n p = record { number = n; place = p; bytes = 0 }
+
 -- the answer, and the buffer after it
 unfoldable pub stored : List ℕ → Outcome (List ℕ) → Written × List ℕ
-stored buffer (bad n p) = (record { number = n; place = p; bytes = 0 }, buffer)
+stored buffer (bad n p) = (unwritten n p, buffer)
 stored buffer (good s) = (record { number = 0; place = 0; bytes = length s }, sets buffer 0 s)

@@ -6,14 +6,14 @@ use mathlib.Core.Bool.{true, false, not, _&&_, _||_}
 use mathlib.Core.List.{List, [], _∷_, _++_, map}
 use mathlib.Core.Option.{none, some}
 use lib.ListN.{length, getD, take, drop}
-use Rattle.rules.specs.Outcome.{good, bad, TIME, OPTION, PACKAGE, ROW, LARGE, ROOM, MARKER, BLOCKS, COUNT}
+use Rattle.rules.specs.Outcome.{Outcome, good, bad, _>>_, TIME, OPTION, PACKAGE, ROW, LARGE, ROOM, MARKER, BLOCKS, COUNT}
 use Rattle.rules.specs.Bytes.{Bytes, word, pad, part, join}
 use Rattle.rules.specs.Items.{items, All, Fills, count, passing}
 use Rattle.rules.specs.Options.{mostOptionBytes, optionFits, isSecond, optionRunFrom, countSaid, kindOf, WholeOption}
 use Rattle.rules.specs.Packages.{Package, packageFits, cut, packageOf, packageTime, Piece}
-use Rattle.rules.specs.Message.{headerBytes, mostNanos, mostBytes, Head, head, payloadStart, payload, isSimulated, recordBits, checksOneToNine, checksOneToTen, Message, message, recording}
+use Rattle.rules.specs.Message.{headerBytes, mostNanos, mostBytes, notLarge, Head, head, payloadStart, payload, isSimulated, recordBits, checksOneToNine, checksOneToTen, Message, message, recording}
 use Rattle.rules.specs.Reading.{header, optionRun, MessageSpot, messageAt, checkedRecording}
-use Rattle.rules.specs.Buffer.{Written}
+use Rattle.rules.specs.Buffer.{Written, unwritten}
 use Rattle.rules.specs.Walk.{PackageSpot, packageAt, dataAt, nextAt, Walks}
 use Rattle.rules.specs.Writer.{write, Draft, accepted, written, writer}
 use Rattle.rules.specs.Clean.{cleanForm, cleaner}
@@ -47,88 +47,43 @@ pub record PremisesMet : Type 0 where
   pub bytes : (s : List ℕ) → ((k : ℕ) → getD s k 0 < 256) → Bytes s
   pub draft : (d : Draft) → d .id < 2 ^ 32 → d .sequence < 2 ^ 32 → d .seconds < 2 ^ 32 → Bytes (d .options) → Bytes (d .packages) → DraftFits d
 
--- Written and read again gives the same record, wherever it stands and whatever follows it.
-abbrev pub WrittenRead : Type 0
-WrittenRead = (m : Message) → Valid m → (p : ℕ) (behind : List ℕ) → message p (write m ++ behind) ≡ good (m, length (write m))
-
--- What the writer accepts, and what a reading gives, is a valid record.
-abbrev pub AcceptedValid : Type 0
-AcceptedValid = (d : Draft) → DraftFits d → (m : Message) → accepted d ≡ good m → Valid m
-
-abbrev pub ReadValid : Type 0
-ReadValid = (p : ℕ) (s : List ℕ) → Bytes s → length s ≤ mostBytes → (m : Message) (n : ℕ) → message p s ≡ good (m, n) → Valid m
-
--- Read and written again gives the clean form.
-abbrev pub ReadWritten : Type 0
-ReadWritten = (s : List ℕ) → Bytes s → (m : Message) (n : ℕ) → message 0 s ≡ good (m, n) → cleanForm s ≡ good (write m)
-
--- The parts of a message that was read, handed to the writer as they stand in its bytes, give its clean form.
-abbrev pub partsOf : List ℕ → Head → Draft
-partsOf s h = record { flags = h .flags; id = h .id; sequence = h .sequence; seconds = h .seconds; nanos = h .nanos; options = optionRun s; packages = payload s h }
-
-abbrev pub PartsWritten : Type 0
-PartsWritten = (s : List ℕ) → Bytes s → length s ≤ mostBytes → (m : Message) (n : ℕ) → message 0 s ≡ good (m, n) → written (partsOf s (head s)) ≡ cleanForm s
+-- What the writer accepts, and what a reading gives, is a valid record. Written and read again it is the same record, wherever it stands and whatever follows it.
+-- Read and written again gives the clean form; so do the parts of a message that was read, handed to the writer as they stand in its bytes.
+pub record RoundTrips : Type 0 where
+  pub accepted-valid : (d : Draft) → DraftFits d → (m : Message) → accepted d ≡ good m → Valid m
+  pub read-valid : (p : ℕ) (s : List ℕ) → Bytes s → length s ≤ mostBytes → (m : Message) (n : ℕ) → message p s ≡ good (m, n) → Valid m
+  pub written-read : (m : Message) → Valid m → (p : ℕ) (behind : List ℕ) → message p (write m ++ behind) ≡ good (m, length (write m))
+  pub read-written : (s : List ℕ) → Bytes s → (m : Message) (n : ℕ) → message 0 s ≡ good (m, n) → cleanForm s ≡ good (write m)
+  pub parts-written : (s : List ℕ) → Bytes s → length s ≤ mostBytes → (m : Message) (n : ℕ) → message 0 s ≡ good (m, n)
+      → written (record { flags = head s .flags; id = head s .id; sequence = head s .sequence; seconds = head s .seconds; nanos = head s .nanos; options = optionRun s; packages = payload s (head s) }) ≡ cleanForm s
 
 -- With room for c an entry point writes: the buffer's first so many bytes are c. Without room it refuses: ROOM, with the bytes needed as place.
 pub record Writes (c : List ℕ) (entry : List ℕ → Written × List ℕ) : Type 0 where
   pub room : (buffer : List ℕ) → length c ≤ length buffer → (entry buffer .0 ≡ record { number = 0; place = 0; bytes = length c }) × (take (length c) (entry buffer .1) ≡ c)
-  pub short : (buffer : List ℕ) → length buffer < length c → entry buffer .0 ≡ record { number = ROOM; place = length c; bytes = 0 }
+  pub short : (buffer : List ℕ) → length buffer < length c → entry buffer .0 ≡ unwritten ROOM (length c)
 
-abbrev pub WriterWrites : Type 0
-WriterWrites = (d : Draft) (c : List ℕ) → written d ≡ good c → Writes c (writer d)
+-- So does the writer with the message of its draft, and the cleaner with the clean form.
+pub record BuffersWritten : Type 0 where
+  pub writer : (d : Draft) (c : List ℕ) → written d ≡ good c → Writes c (writer d)
+  pub cleaner : (s c : List ℕ) → length s ≤ mostBytes → cleanForm s ≡ good c → Writes c (cleaner s)
 
-abbrev pub CleanerWrites : Type 0
-CleanerWrites = (s c : List ℕ) → length s ≤ mostBytes → cleanForm s ≡ good c → Writes c (cleaner s)
+-- What follows the message changes nothing of its clean form. Cleaning twice changes nothing more, whatever follows the message. Two messages have equal clean
+-- forms exactly if their records are equal.
+pub record CleanExactly : Type 0 where
+  pub alone : (s behind c : List ℕ) → cleanForm s ≡ good c → cleanForm (s ++ behind) ≡ good c
+  pub twice : (s c behind : List ℕ) → Bytes s → length s ≤ mostBytes → Bytes behind → cleanForm s ≡ good c → cleanForm (c ++ behind) ≡ good c
+  pub equal : (s t : List ℕ) → Bytes s → Bytes t → length s ≤ mostBytes → length t ≤ mostBytes → (m l : Message) (n k : ℕ)
+      → message 0 s ≡ good (m, n) → message 0 t ≡ good (l, k) → (cleanForm s ≡ cleanForm t) ↔ (m ≡ l)
 
--- Why and where the cleaner refuses: its input is too large; or a check does not pass its first message; or the buffer has no room for the clean form.
-pub data CleaningRefused (s buffer : List ℕ) : ℕ → ℕ → Type 0 where
-  large : mostBytes < length s → CleaningRefused s buffer LARGE mostBytes
-  bad-message : {n p : ℕ} → length s ≤ mostBytes → message 0 s ≡ bad n p → CleaningRefused s buffer n p
-  no-room : {c : List ℕ} → length s ≤ mostBytes → cleanForm s ≡ good c → length buffer < length c → CleaningRefused s buffer ROOM (length c)
-
--- The cleaner refuses exactly so, with nothing written and its buffer as it was. No reason has the number 0.
-abbrev pub CleanerRefuses : Type 0
-CleanerRefuses = (s buffer : List ℕ) (n p : ℕ) → ((n ≡ 0 → ⊥) × (cleaner s buffer ≡ (record { number = n; place = p; bytes = 0 }, buffer))) ↔ CleaningRefused s buffer n p
-
--- What follows the message changes nothing of its clean form.
-abbrev pub CleanAlone : Type 0
-CleanAlone = (s behind c : List ℕ) → cleanForm s ≡ good c → cleanForm (s ++ behind) ≡ good c
-
--- Cleaning twice changes nothing more, whatever follows the message.
-abbrev pub CleanTwice : Type 0
-CleanTwice = (s c behind : List ℕ) → Bytes s → length s ≤ mostBytes → Bytes behind → cleanForm s ≡ good c → cleanForm (c ++ behind) ≡ good c
-
--- Two messages have equal clean forms exactly if their records are equal.
-abbrev pub CleanExactly : Type 0
-CleanExactly = (s t : List ℕ) → Bytes s → Bytes t → length s ≤ mostBytes → length t ≤ mostBytes → (m l : Message) (n k : ℕ)
-    → message 0 s ≡ good (m, n) → message 0 t ≡ good (l, k) → (cleanForm s ≡ cleanForm t) ↔ (m ≡ l)
-
--- What is told of a message in a recording is told of its record.
-pub record OfRecord (s : List ℕ) (p : ℕ) (k : MessageSpot) : Type 0 where
-  pub held : Message
-  pub read : message p (drop p s) ≡ good (held, k .head .size)
-  pub flags : recordBits (k .head .flags) ≡ held .flags
-  pub numbers : (k .head .id ≡ held .id) × (k .head .sequence ≡ held .sequence) × (k .head .seconds ≡ held .seconds) × (k .head .nanos ≡ held .nanos)
-  pub options : part headerBytes (headerBytes + k .run) (drop p s) ≡ held .options
-  pub packages : k .packages ≡ length (held .packages)
-  pub payload : k .payload ≡ p + payloadStart (k .head)
-  pub next : k .next ≡ p + k .head .size
-
-abbrev pub SpotOfRecord : Type 0
-SpotOfRecord = (s : List ℕ) (p : ℕ) (k : MessageSpot) → messageAt s p ≡ good k → OfRecord s p k
-
--- A message that is read, or refused, from its place on is told of, or refused, at its place.
-pub record SpotExactly : Type 0 where
-  pub told : (s : List ℕ) (p : ℕ) → length s ≤ mostBytes → (m : Message) (n : ℕ) → message p (drop p s) ≡ good (m, n) → (k : MessageSpot) × (messageAt s p ≡ good k)
+-- What is told of a message at its place is told of its record, which is read from there on. A message that is read, or refused, from its place on is told of,
+-- or refused, at its place. A recording checked: how many messages it has, and how many packages, those of all messages joined.
+pub record ReadingExactly : Type 0 where
+  pub told : (s : List ℕ) (p : ℕ) (k : MessageSpot) → messageAt s p ≡ good k → (m : Message) × (message p (drop p s) ≡ good (m, k .head .size))
+      × (m ≡ record { flags = recordBits (k .head .flags); id = k .head .id; sequence = k .head .sequence; seconds = k .head .seconds; nanos = k .head .nanos; options = part headerBytes (headerBytes + k .run) (drop p s); packages = m .packages })
+      × (k .packages ≡ length (m .packages)) × (k .payload ≡ p + payloadStart (k .head)) × (k .next ≡ p + k .head .size)
+  pub read : (s : List ℕ) (p : ℕ) → length s ≤ mostBytes → (m : Message) (n : ℕ) → message p (drop p s) ≡ good (m, n) → (k : MessageSpot) × (messageAt s p ≡ good k)
   pub refused : (s : List ℕ) (p : ℕ) → length s ≤ mostBytes → (n q : ℕ) → message p (drop p s) ≡ bad n q → messageAt s p ≡ bad n q
-
--- A header alone is refused by checks 1 to 7 and no other: exactly where one of these refuses its message, with that number and place.
-abbrev pub HeaderRefused : Type 0
-HeaderRefused = (s : List ℕ) (n p : ℕ) → length s ≤ mostBytes → (header s ≡ bad n p) ↔ ((n ≤ OPTION) × (message 0 s ≡ bad n p))
-
--- A recording checked: how many messages it has, and how many packages, those of all messages joined.
-abbrev pub CountsChecked : Type 0
-CountsChecked = (s : List ℕ) (ms : List Message) → recording s ≡ good ms → checkedRecording s ≡ good (length ms, length (join (map (λ (m : Message). m .packages) ms)))
+  pub counted : (s : List ℕ) (ms : List Message) → recording s ≡ good ms → checkedRecording s ≡ good (length ms, length (join (map (λ (m : Message). m .packages) ms)))
 
 -- Where checks 1 to 9 pass, a payload is refused as PACKAGE exactly if no cut into packages fills it. The packages fill it in one way only: a run is cut into
 -- these pieces exactly if they fill it. The place of that refusal is the first package that its header or the bytes left do not allow: whole packages fill what
@@ -139,41 +94,6 @@ pub record PackageExactly : Type 0 where
   pub filled : (p : ℕ) (s : List ℕ) (pieces : List (List ℕ)) → (cut p s ≡ good pieces) ↔ Fills Piece pieces s
   pub place : (p : ℕ) (s : List ℕ) (n q : ℕ) → cut p s ≡ bad n q
       → (d : ℕ) × (q ≡ p + d) × (n ≡ PACKAGE) × (packageFits (drop d s) ≡ false) × ((pieces : List (List ℕ)) × Fills Piece pieces (take d s))
-
--- Why and where a recording is refused: it is too large; or behind messages that pass, the next one does not.
-pub data BadRecording (s : List ℕ) : ℕ → ℕ → Type 0 where
-  large : mostBytes < length s → BadRecording s LARGE mostBytes
-  bad-message : {q n p : ℕ} {before : List Message} → length s ≤ mostBytes → items message 0 0 (take q s) ≡ good before → q < length s → message q (drop q s) ≡ bad n p → BadRecording s n p
-
--- as many bytes as a sheet may have: whole rows, and no more than 32
-pub record SheetSize (s : List ℕ) : Type 0 where
-  pub most : length s ≤ mostRows * rowBytes
-  pub rows : length s % rowBytes ≡ 0
-
--- Why and where a sheet is refused: its size; or behind rows that keep the rules, the next one does not.
-pub data BadSheet (s : List ℕ) : ℕ → ℕ → Type 0 where
-  bad-size : (SheetSize s → ⊥) → BadSheet s ROW (length s)
-  bad-row : (i : ℕ) {before : List Row} → SheetSize s → items row 0 0 (take (i * rowBytes) s) ≡ good before → i * rowBytes < length s → row (i * rowBytes) (drop (i * rowBytes) s) ≡ bad ROW (i * rowBytes) → BadSheet s ROW (i * rowBytes)
-
--- Why and where a released list is refused: by the sheet; or the sheet passes, and by the recording.
-pub data ReleaseRefused (recordingBytes sheetBytes : List ℕ) : ℕ → ℕ → Type 0 where
-  by-sheet : {n p : ℕ} → BadSheet sheetBytes n p → ReleaseRefused recordingBytes sheetBytes n p
-  by-recording : {n p : ℕ} {rows : List Row} → sheet sheetBytes ≡ good rows → BadRecording recordingBytes n p → ReleaseRefused recordingBytes sheetBytes n p
-
--- Why and where a copy is refused: its released list is; or it is not, and the buffer has no room for its copy.
-pub data CopyRefused (recordingBytes sheetBytes buffer : List ℕ) : ℕ → ℕ → Type 0 where
-  by-release : {n p : ℕ} → ReleaseRefused recordingBytes sheetBytes n p → CopyRefused recordingBytes sheetBytes buffer n p
-  no-room : {es : List Entry} → releasedOf recordingBytes sheetBytes ≡ good es → length buffer < length (copyBytes es) → CopyRefused recordingBytes sheetBytes buffer ROOM (length (copyBytes es))
-
--- Recordings, sheets, released lists and copies are refused exactly so; a copy with its buffer as it was. No reason has the number 0.
-pub record RefusalsExactly : Type 0 where
-  pub recording : (s : List ℕ) (n p : ℕ) → (recording s ≡ bad n p) ↔ BadRecording s n p
-  pub checked : (s : List ℕ) (n p : ℕ) → (checkedRecording s ≡ bad n p) ↔ BadRecording s n p
-  pub sheet : (s : List ℕ) (n p : ℕ) → (sheet s ≡ bad n p) ↔ BadSheet s n p
-  pub rows : (s : List ℕ) (n p : ℕ) → (sheetRows s ≡ bad n p) ↔ BadSheet s n p
-  pub released : (recordingBytes sheetBytes : List ℕ) (n p : ℕ) → (releasedOf recordingBytes sheetBytes ≡ bad n p) ↔ ReleaseRefused recordingBytes sheetBytes n p
-  pub measured : (recordingBytes sheetBytes : List ℕ) (n p : ℕ) → ((n ≡ 0 → ⊥) × (measurement recordingBytes sheetBytes ≡ refusal n p)) ↔ ReleaseRefused recordingBytes sheetBytes n p
-  pub copied : (recordingBytes sheetBytes buffer : List ℕ) (n p : ℕ) → ((n ≡ 0 → ⊥) × (copy recordingBytes sheetBytes buffer ≡ (refusal n p, buffer))) ↔ CopyRefused recordingBytes sheetBytes buffer n p
 
 -- P holds of some element
 pub data Some {A : Type 0} (P : A → Type 0) : List A → Type 0 where
@@ -199,44 +119,11 @@ abbrev pub SaysOther : List ℕ → ℕ → Type 0
 SaysOther run n = (c : ℕ) × (countSaid run ≡ some c) × (c ≡ n → ⊥)
 
 -- The number that a message says, if it passes, is that of its packages. COUNT is given, at the message, exactly if checks 1 to 10 pass and the option run
--- says another; and by the writer, at 0, exactly if all that it checks before passes and the option run says another.
+-- says another. (When the writer gives it: `DraftRefused`.)
 pub record CountExactly : Type 0 where
   pub right : (p : ℕ) (s : List ℕ) (m : Message) (n : ℕ) → message p s ≡ good (m, n) → (c : ℕ) → countSaid (m .options) ≡ some c → c ≡ length (m .packages)
   pub read : (p : ℕ) (s : List ℕ) (q : ℕ) → (message p s ≡ bad COUNT q)
       ↔ ((q ≡ p) × ((r : ℕ × List (List ℕ)) × (checksOneToTen p s (head s) ≡ good r) × SaysOther (part headerBytes (headerBytes + r .0) s) (length (r .1))))
-  pub written : (d : Draft) (q : ℕ) → (written d ≡ bad COUNT q) ↔ ((q ≡ 0) × (headerBytes + pad (length (d .options)) + length (d .packages) ≤ mostBytes) × (d .nanos ≤ mostNanos)
-      × (length (d .options) ≤ mostOptionBytes) × WholeRun (d .options) × ((pieces : List (List ℕ)) × Fills Piece pieces (d .packages) × SaysOther (d .options) (length pieces)))
-
--- how many bytes the message of a draft takes
-abbrev pub draftBytes : Draft → ℕ
-draftBytes d = headerBytes + pad (length (d .options)) + length (d .packages)
-
--- what the writer asks of a draft before it looks at an option: the size of its message, its nanoseconds, and the size of its option run
-pub record DraftSizes (d : Draft) : Type 0 where
-  pub message : draftBytes d ≤ mostBytes
-  pub nanos : d .nanos ≤ mostNanos
-  pub run : length (d .options) ≤ mostOptionBytes
-
--- Why and where a draft is refused, the first of these: its message is too large; its nanoseconds are a second or more; its option run is above 60 bytes;
--- an option is bad, or it is one of kind 0x00, which ends the run before its bytes end; a package is bad; or the run says another number of packages.
-pub data DraftRefused (d : Draft) : ℕ → ℕ → Type 0 where
-  large : mostBytes < draftBytes d → DraftRefused d LARGE mostBytes
-  bad-time : draftBytes d ≤ mostBytes → mostNanos < d .nanos → DraftRefused d TIME 0
-  long-run : draftBytes d ≤ mostBytes → d .nanos ≤ mostNanos → mostOptionBytes < length (d .options) → DraftRefused d OPTION mostOptionBytes
-  bad-option : {p : ℕ} → DraftSizes d → optionRunFrom [] 0 0 0 (d .options) ≡ bad OPTION p → DraftRefused d OPTION p
-  zero-option : {p : ℕ} → DraftSizes d → optionRunFrom [] 0 0 0 (d .options) ≡ good p → p < length (d .options) → DraftRefused d OPTION p
-  bad-package : {p : ℕ} → DraftSizes d → WholeRun (d .options) → cut 0 (d .packages) ≡ bad PACKAGE p → DraftRefused d PACKAGE p
-  bad-count : {pieces : List (List ℕ)} → DraftSizes d → WholeRun (d .options) → Fills Piece pieces (d .packages) → SaysOther (d .options) (length pieces) → DraftRefused d COUNT 0
-
--- Why and where writing is refused: its draft is; or it is not, and the buffer has no room for its message.
-pub data WritingRefused (d : Draft) (buffer : List ℕ) : ℕ → ℕ → Type 0 where
-  by-draft : {n p : ℕ} → DraftRefused d n p → WritingRefused d buffer n p
-  no-room : {c : List ℕ} → written d ≡ good c → length buffer < length c → WritingRefused d buffer ROOM (length c)
-
--- Drafts are refused exactly so, and so is writing them, with nothing written and the buffer as it was. No reason has the number 0.
-pub record WriterRefuses : Type 0 where
-  pub drafts : (d : Draft) (n p : ℕ) → (written d ≡ bad n p) ↔ DraftRefused d n p
-  pub writer : (d : Draft) (buffer : List ℕ) (n p : ℕ) → ((n ≡ 0 → ⊥) × (writer d buffer ≡ (record { number = n; place = p; bytes = 0 }, buffer))) ↔ WritingRefused d buffer n p
 
 -- A walk shows every package of the cut, in order, and then the end. Where a step shows no package, at the end or at a refusal, the walk has not moved and the
 -- part shown is empty. A run that is too large is refused at every step; in any other the end is shown exactly at the run's end and behind it, and
@@ -250,14 +137,9 @@ pub record WalkExactly : Type 0 where
 
 -- A package is granted exactly if, in some row, message id and package id lie in the ranges, ends included, and package time in the window, start included and end not;
 -- and, where the row is for acquired data only, flag bit 3 of the message is 0. Each row is judged by itself.
-pub record InRanges (m : Message) (k : Package) (r : Row) : Type 0 where
-  pub message-first : r .firstMessage ≤ m .id
-  pub message-last : m .id ≤ r .lastMessage
-  pub package-first : r .firstPackage ≤ k .id
-  pub package-last : k .id ≤ r .lastPackage
-  pub start : startOf r ≤ packageTime (m .seconds) (m .nanos) (k .delta)
-  pub end : packageTime (m .seconds) (m .nanos) (k .delta) < endOf r
-  pub acquired : r .acquiredOnly ≡ true → m .flags / 8 % 2 ≡ 0
+abbrev pub InRanges : Message → Package → Row → Type 0
+InRanges m k r = (r .firstMessage ≤ m .id) × (m .id ≤ r .lastMessage) × (r .firstPackage ≤ k .id) × (k .id ≤ r .lastPackage)
+    × (startOf r ≤ packageTime (m .seconds) (m .nanos) (k .delta)) × (packageTime (m .seconds) (m .nanos) (k .delta) < endOf r) × (r .acquiredOnly ≡ true → m .flags / 8 % 2 ≡ 0)
 
 abbrev pub GrantedExactly : Type 0
 GrantedExactly = (rows : List Row) (m : Message) (k : Package) → (granted rows m k ≡ true) ↔ Some (InRanges m k) rows
@@ -302,15 +184,80 @@ abbrev pub BurstExactly : Type 0
 BurstExactly = (s : List ℕ) → Bytes s → (blocks : ℕ) (after : List ℕ) → (opening s ≡ good (blocks, after)) ↔ ((take (length marker) s ≡ marker)
     × (1 ≤ blocks) × (blocks ≤ mostBlocks) × (length s ≡ length marker + blocks * blockSize) × (after ≡ marker ++ randomized 0 (drop (length marker) s)))
 
+-- ---- Demands 1 and 2: why each entry point refuses, and at which place, in document 01's order.
+
+-- Why and where a recording is refused: it is too large; or behind messages that pass, the next one does not.
+pub data BadRecording (s : List ℕ) : ℕ → ℕ → Type 0 where
+  large : mostBytes < length s → BadRecording s LARGE mostBytes
+  bad-message : {q n p : ℕ} {before : List Message} → length s ≤ mostBytes → items message 0 0 (take q s) ≡ good before → q < length s → message q (drop q s) ≡ bad n p → BadRecording s n p
+
+-- as many bytes as a sheet may have: whole rows, and no more than 32
+abbrev pub SheetSize : List ℕ → Type 0
+SheetSize s = (length s ≤ mostRows * rowBytes) × (length s % rowBytes ≡ 0)
+
+-- Why and where a sheet is refused: its size; or behind rows that keep the rules, the next one does not.
+pub data BadSheet (s : List ℕ) : ℕ → ℕ → Type 0 where
+  bad-size : (SheetSize s → ⊥) → BadSheet s ROW (length s)
+  bad-row : (i : ℕ) {before : List Row} → SheetSize s → items row 0 0 (take (i * rowBytes) s) ≡ good before → i * rowBytes < length s → row (i * rowBytes) (drop (i * rowBytes) s) ≡ bad ROW (i * rowBytes) → BadSheet s ROW (i * rowBytes)
+
+-- Why and where a released list is refused: by the sheet; or the sheet passes, and by the recording.
+pub data ReleaseRefused (recordingBytes sheetBytes : List ℕ) : ℕ → ℕ → Type 0 where
+  by-sheet : {n p : ℕ} → BadSheet sheetBytes n p → ReleaseRefused recordingBytes sheetBytes n p
+  by-recording : {n p : ℕ} {rows : List Row} → sheet sheetBytes ≡ good rows → BadRecording recordingBytes n p → ReleaseRefused recordingBytes sheetBytes n p
+
+-- how many bytes the message of a draft takes
+abbrev pub draftBytes : Draft → ℕ
+draftBytes d = headerBytes + pad (length (d .options)) + length (d .packages)
+
+-- what the writer asks of a draft before it looks at an option: the size of its message, its nanoseconds, and the size of its option run
+abbrev pub DraftSizes : Draft → Type 0
+DraftSizes d = (draftBytes d ≤ mostBytes) × (d .nanos ≤ mostNanos) × (length (d .options) ≤ mostOptionBytes)
+
+-- Why and where a draft is refused, the first of these: its message is too large; its nanoseconds are a second or more; its option run is above 60 bytes;
+-- an option is bad, or it is one of kind 0x00, which ends the run before its bytes end; a package is bad; or the run says another number of packages.
+pub data DraftRefused (d : Draft) : ℕ → ℕ → Type 0 where
+  large : mostBytes < draftBytes d → DraftRefused d LARGE mostBytes
+  bad-time : draftBytes d ≤ mostBytes → mostNanos < d .nanos → DraftRefused d TIME 0
+  long-run : draftBytes d ≤ mostBytes → d .nanos ≤ mostNanos → mostOptionBytes < length (d .options) → DraftRefused d OPTION mostOptionBytes
+  bad-option : {p : ℕ} → DraftSizes d → optionRunFrom [] 0 0 0 (d .options) ≡ bad OPTION p → DraftRefused d OPTION p
+  zero-option : {p : ℕ} → DraftSizes d → optionRunFrom [] 0 0 0 (d .options) ≡ good p → p < length (d .options) → DraftRefused d OPTION p
+  bad-package : {p : ℕ} → DraftSizes d → WholeRun (d .options) → cut 0 (d .packages) ≡ bad PACKAGE p → DraftRefused d PACKAGE p
+  bad-count : {pieces : List (List ℕ)} → DraftSizes d → WholeRun (d .options) → Fills Piece pieces (d .packages) → SaysOther (d .options) (length pieces) → DraftRefused d COUNT 0
+
 -- Why and where a burst is refused: it is too large; or it does not begin with the marker; or what is behind the marker is not 1 to 80 codeblocks.
 pub data BurstRefused (s : List ℕ) : ℕ → ℕ → Type 0 where
   large : mostBytes < length s → BurstRefused s LARGE mostBytes
   unmarked : length s ≤ mostBytes → (take (length marker) s ≡ marker → ⊥) → BurstRefused s MARKER 0
   blocks : length s ≤ mostBytes → take (length marker) s ≡ marker → ((n : ℕ) → 1 ≤ n → n ≤ mostBlocks → length s ≡ length marker + n * blockSize → ⊥) → BurstRefused s BLOCKS (length s)
 
--- Opening refuses a burst exactly so.
-abbrev pub OpeningRefused : Type 0
-OpeningRefused = (s : List ℕ) → Bytes s → (n p : ℕ) → (opening s ≡ bad n p) ↔ BurstRefused s n p
+-- Why and where the cleaner refuses, but for want of room: its input is too large; or a check does not pass its first message.
+pub data CleaningRefused (s : List ℕ) : ℕ → ℕ → Type 0 where
+  large : mostBytes < length s → CleaningRefused s LARGE mostBytes
+  bad-message : {n p : ℕ} → length s ≤ mostBytes → message 0 s ≡ bad n p → CleaningRefused s n p
+
+-- Why and where something is refused that goes into a buffer: it is refused itself; or it is not, and the buffer has no room for its bytes.
+pub data Unstored {A : Type 0} (Refused : ℕ → ℕ → Type 0) (o : Outcome A) (bytesOf : A → List ℕ) (buffer : List ℕ) : ℕ → ℕ → Type 0 where
+  itself : {n p : ℕ} → Refused n p → Unstored Refused o bytesOf buffer n p
+  no-room : {a : A} → o ≡ good a → length buffer < length (bytesOf a) → Unstored Refused o bytesOf buffer ROOM (length (bytesOf a))
+
+-- Recordings, sheets, released lists, bursts and drafts are refused exactly so. A header alone is refused by checks 1 to 7 and no other: exactly where one of these
+-- refuses its message, with that number and place. A copy, a draft's message and a clean form are refused exactly so, with nothing written and the buffer as it
+-- was. No reason has the number 0, and none of measuring is ROOM.
+pub record RefusalsExactly : Type 0 where
+  pub header : (s : List ℕ) (n p : ℕ) → length s ≤ mostBytes → (header s ≡ bad n p) ↔ ((n ≤ OPTION) × (message 0 s ≡ bad n p))
+  pub recording : (s : List ℕ) (n p : ℕ) → (recording s ≡ bad n p) ↔ BadRecording s n p
+  pub checked : (s : List ℕ) (n p : ℕ) → (checkedRecording s ≡ bad n p) ↔ BadRecording s n p
+  pub sheet : (s : List ℕ) (n p : ℕ) → (sheet s ≡ bad n p) ↔ BadSheet s n p
+  pub rows : (s : List ℕ) (n p : ℕ) → (sheetRows s ≡ bad n p) ↔ BadSheet s n p
+  pub opening : (s : List ℕ) → Bytes s → (n p : ℕ) → (opening s ≡ bad n p) ↔ BurstRefused s n p
+  pub drafts : (d : Draft) (n p : ℕ) → (written d ≡ bad n p) ↔ DraftRefused d n p
+  pub released : (recordingBytes sheetBytes : List ℕ) (n p : ℕ) → (releasedOf recordingBytes sheetBytes ≡ bad n p) ↔ ReleaseRefused recordingBytes sheetBytes n p
+  pub measured : (recordingBytes sheetBytes : List ℕ) (n p : ℕ) → ((n ≡ 0 → ⊥) × (measurement recordingBytes sheetBytes ≡ refusal n p)) ↔ ReleaseRefused recordingBytes sheetBytes n p
+  pub roomless : (recordingBytes sheetBytes : List ℕ) (p : ℕ) → ReleaseRefused recordingBytes sheetBytes ROOM p → ⊥
+  pub copied : (recordingBytes sheetBytes buffer : List ℕ) (n p : ℕ) → ((n ≡ 0 → ⊥) × (copy recordingBytes sheetBytes buffer ≡ (refusal n p, buffer)))
+      ↔ Unstored (ReleaseRefused recordingBytes sheetBytes) (releasedOf recordingBytes sheetBytes) copyBytes buffer n p
+  pub writer : (d : Draft) (buffer : List ℕ) (n p : ℕ) → ((n ≡ 0 → ⊥) × (writer d buffer ≡ (unwritten n p, buffer))) ↔ Unstored (DraftRefused d) (written d) (λ c. c) buffer n p
+  pub cleaner : (s buffer : List ℕ) (n p : ℕ) → ((n ≡ 0 → ⊥) × (cleaner s buffer ≡ (unwritten n p, buffer))) ↔ Unstored (CleaningRefused s) (notLarge s >> cleanForm s) (λ c. c) buffer n p
 
 -- ---- Demand 3: the copy talks about nothing but what was released.
 
@@ -335,51 +282,34 @@ pub record CopyExactly (recordingBytes sheetBytes : List ℕ) (es : List Entry) 
   pub read : Bytes recordingBytes → recording (copyBytes es) ≡ good (copyMessages [] es)
   pub short : Bytes recordingBytes → length (copyBytes es) ≤ length recordingBytes
 
--- Measured first, then written. Measuring never gives ROOM. A buffer of the measured bytes has room, and what is written is what was measured, number for
--- number; a shorter one is ROOM, with the measured bytes as its place. Otherwise both refuse the same for the same reason at the same place, and the buffer stays.
-pub record MeasuredFirst (recording sheet : List ℕ) : Type 0 where
-  pub roomless : measurement recording sheet .number ≡ ROOM → ⊥
-  pub enough : (buffer : List ℕ) → measurement recording sheet .bytes ≤ length buffer → copy recording sheet buffer .0 ≡ measurement recording sheet
-  pub short : (buffer : List ℕ) → length buffer < measurement recording sheet .bytes
-      → copy recording sheet buffer .0 ≡ refusal ROOM (measurement recording sheet .bytes)
-  pub refused : (buffer : List ℕ) → (measurement recording sheet .number ≡ 0 → ⊥) → copy recording sheet buffer ≡ (measurement recording sheet, buffer)
-  pub alike : (buffer : List ℕ) → (copy recording sheet buffer .0 .number ≡ ROOM → ⊥) → copy recording sheet buffer .0 ≡ measurement recording sheet
-
 -- The sequence number of an entry's message is how many of the entries before it have its message id.
 abbrev pub SequenceCounted : Type 0
 SequenceCounted = (before : List Entry) (e : Entry) → copyMessages [] (before ++ (e ∷ [])) ≡ copyMessages [] before ++ (copyMessage (count (e .id) (map (λ (x : Entry). x .id) before)) e ∷ [])
 
--- The released list goes message by message, and a message's packages one by one: exactly the granted ones, in order. A message with one has an entry
+-- The released list goes message by message, and has of a message's packages exactly the granted ones, in order. A message with one has an entry
 -- with its id, its time, bits 3, 2 and 1 of its flags and its granted packages; one without has none.
 pub record ReleasedExactly (rows : List Row) : Type 0 where
   pub messages : (ms ns : List Message) → released rows (ms ++ ns) ≡ released rows ms ++ released rows ns
-  pub packages : (m : Message) (ks ls : List Package) → grantedPackages rows m (ks ++ ls) ≡ grantedPackages rows m ks ++ grantedPackages rows m ls
-  pub one : (m : Message) (k : Package) → granted rows m k ≡ true → grantedPackages rows m (k ∷ []) ≡ k ∷ []
-  pub none : (m : Message) (k : Package) → granted rows m k ≡ false → grantedPackages rows m (k ∷ []) ≡ []
+  pub packages : (m : Message) (ks : List Package) → grantedPackages rows m ks ≡ passing (granted rows m) ks
   pub entry : (m : Message) (k : Package) (ks : List Package) → grantedPackages rows m (m .packages) ≡ k ∷ ks
       → released rows (m ∷ []) ≡ record { id = m .id; seconds = m .seconds; nanos = m .nanos; flags = m .flags / 2 % 8 * 2; packages = k ∷ ks } ∷ []
   pub silent : (m : Message) → grantedPackages rows m (m .packages) ≡ [] → released rows (m ∷ []) ≡ []
 
 -- Each message of the copy has no options, playback set, and end of data not set.
-pub record Plain (m : Message) : Type 0 where
-  pub options : m .options ≡ []
-  pub playback : m .flags / 64 % 2 ≡ 1
-  pub end : m .flags % 2 ≡ 0
-
 abbrev pub CopyPlain : Type 0
-CopyPlain = (rows : List Row) (ms : List Message) → All Plain (copyMessages [] (released rows ms))
+CopyPlain = (rows : List Row) (ms : List Message) → All (λ (m : Message). (m .options ≡ []) × (m .flags / 64 % 2 ≡ 1) × (m .flags % 2 ≡ 0)) (copyMessages [] (released rows ms))
 
 -- ---- Document 02, A14: two sheets in turn, and a row more.
 
 -- c is the copy of a recording under one sheet, d that under another. Copied again under the other sheet, c releases exactly the packages of the recording that
--- both grant; so does d under the one. Either way gives the same answer and the same bytes in whatever buffer, the same measurement, and in two buffers the same
--- copy. Under its own sheet c is copied as the recording is, and comes out unchanged. One sheet with the rows of both releases what either grants.
+-- both grant; so does d under the one. Either way gives the same released list, so by `SameCopies` the same answer and the same bytes in whatever buffer, and the
+-- same measurement; and in two buffers the same copy. Under its own sheet c releases what the recording does, and comes out unchanged. One sheet with the rows of
+-- both releases what either grants.
 pub record InTurn (recordingBytes sheetBytes sheetBytes′ c d : List ℕ) (rows rows′ : List Row) (ms : List Message) : Type 0 where
   pub both : releasedOf c sheetBytes′ ≡ good (releasedBy (λ m k. granted rows m k && granted rows′ m k) ms)
-  pub equal : (buffer : List ℕ) → copy c sheetBytes′ buffer ≡ copy d sheetBytes buffer
-  pub measured : measurement c sheetBytes′ ≡ measurement d sheetBytes
+  pub turned : releasedOf c sheetBytes′ ≡ releasedOf d sheetBytes
   pub delivered : (e f : List ℕ) → Copied c sheetBytes′ e → Copied d sheetBytes f → e ≡ f
-  pub again : (buffer : List ℕ) → copy c sheetBytes buffer ≡ copy recordingBytes sheetBytes buffer
+  pub again : releasedOf c sheetBytes ≡ releasedOf recordingBytes sheetBytes
   pub own : (e : List ℕ) → Copied c sheetBytes e → e ≡ c
   pub joined : length (sheetBytes ++ sheetBytes′) ≤ mostRows * rowBytes → releasedOf recordingBytes (sheetBytes ++ sheetBytes′) ≡ good (releasedBy (λ m k. granted rows m k || granted rows′ m k) ms)
 
@@ -403,15 +333,12 @@ OneOutcome = (A B : Type 0) (told : A → B) → TellsApart told → (d : B) (a 
 -- ---- All of it: every statement above, P1 to P12, and the rules at their edges.
 
 pub record Claims : Type 1 where
-  pub buffers : BuffersKept
-  pub premises : PremisesMet × AcceptedValid × ReadValid
-  pub reading : SpotOfRecord × SpotExactly × HeaderRefused × CountsChecked × RefusalsExactly × OptionsExactly × CountExactly × PackageExactly × WalkExactly
-  pub writing : WrittenRead × ReadWritten × PartsWritten × WriterWrites × WriterRefuses
-  pub cleaning : CleanerWrites × CleanerRefuses × CleanAlone × CleanTwice × CleanExactly
-  pub measuring : (recording sheet : List ℕ) → MeasuredFirst recording sheet
+  pub buffers : BuffersKept × BuffersWritten
+  pub reading : ReadingExactly × RefusalsExactly × OptionsExactly × CountExactly × PackageExactly × WalkExactly
+  pub writing : PremisesMet × RoundTrips × CleanExactly
   pub granting : RowExactly × GrantedExactly × WindowsExactly × ((ns : List ℕ) (ms : List Message) → AcquiredOnly ns ms) × ((rows : List Row) → ReleasedExactly rows)
   pub copying : ((recordingBytes sheetBytes : List ℕ) (es : List Entry) (list : releasedOf recordingBytes sheetBytes ≡ good es) → CopyExactly recordingBytes sheetBytes es list) × SequenceCounted × CopyPlain × TwoSheets × RowAdded
-  pub bursts : RandomizerExactly × BurstExactly × OpeningRefused
+  pub bursts : RandomizerExactly × BurstExactly
   pub silence : ((recording recording′ sheet sheet′ : List ℕ) (same : releasedOf recording sheet ≡ releasedOf recording′ sheet′) → SameCopies recording recording′ sheet sheet′ same) × DifferentCopies
   pub outcomes : OneOutcome
   pub numbers : Table × Edges

@@ -89,7 +89,7 @@ releasedOf recordingBytes sheetBytes = do
 
 -- number and place, both 0 on success; and what the copy of the released list takes, zero on a refusal
 unfoldable pub reported : Outcome (List Entry) → Answer
-reported (bad n p) = record { number = n; place = p; bytes = 0; messages = 0; packages = 0 }
+reported (bad n p) = refusal n p
 reported (good es) = record { number = 0; place = 0; bytes = length (copyBytes es); messages = length es; packages = packagesIn es }
 
 -- the measurement of a recording under the bytes of a sheet: what the copy takes, and nothing is written

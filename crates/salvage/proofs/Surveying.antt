@@ -39,8 +39,8 @@ pub record KeptAt (s : List ℕ) (p x : ℕ) : Type 0 where
 pub kept-at : (s : List ℕ) (p : ℕ) (k : MessageSpot) → p < length s → good k ≡ messageAt s p → KeptAt s p (k .next)
 kept-at s p k l e =
     let r = of-record s p k (sym e) in
-    let (a, b) = message-inside p (drop p s) (r .held) (k .head .size) (r .read) in
-    record { size = k .head .size; next = r .next; least = a; inside = omega (arith, length-drop p s); read = piece-kept p (drop p s) (r .held) (k .head .size) (r .read) }
+    let (a, b) = message-inside p (drop p s) (r .0) (k .head .size) (r .1) in
+    record { size = k .head .size; next = r .5; least = a; inside = omega (arith, length-drop p s); read = piece-kept p (drop p s) (r .0) (k .head .size) (r .1) }
 
 -- no message at place p
 pub lost-at : (s : List ℕ) (p : ℕ) {a b : ℕ} → length s ≤ 65536 → bad a b ≡ messageAt s p → Lost s p

@@ -11,7 +11,7 @@ use borrow.Author.Tests.{not-true, not-false}
 use Rattle.rules.specs.Outcome.{good}
 use Rattle.rules.specs.Bytes.{Bytes}
 use Rattle.rules.specs.Burst.{marker, marked, blockSize, mostBlocks, blocksFit, randomized, opening}
-use Rattle.rules.proofs.Claims.{burst-is, all-claims}
+use Rattle.rules.proofs.Claims.{premises-met, burst-is}
 use Rattle.burst.specs.declared.Opened.{Opened}
 use Rattle.burst.specs.Told.{toldOpened}
 use Rattle.burst.proofs.Buffer.{behind}
@@ -111,7 +111,7 @@ abbrev handed : tie.After-slice-known → List ℕ
 handed c = c .before .args .buf .now
 
 pub handed-bytes : (c : tie.After-slice-known) → Bytes (handed c)
-handed-bytes c = all-claims .premises .0 .bytes _ (λ k. omega (arith, c .slice-known .given k))
+handed-bytes c = premises-met .bytes _ (λ k. omega (arith, c .slice-known .given k))
 
 pub every-call : (c : tie.After-slice-known) (blocks : ℕ) (after : List ℕ) → (opening (handed c) ≡ good (blocks, after)) ↔ ((take (length marker) (handed c) ≡ marker)
     × (1 ≤ blocks) × (blocks ≤ mostBlocks) × (length (handed c) ≡ length marker + blocks * blockSize) × (after ≡ marker ++ randomized 0 (drop (length marker) (handed c))))
