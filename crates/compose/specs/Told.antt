@@ -31,7 +31,7 @@ recordBy h = record { flags = h .flags; id = h .id; sequence = h .sequence; seco
 -- an answer's number, place and bytes written
 abbrev pub numbers : Written → answers.Written
 numbers (Done n) = record { number = 0; place = 0; bytes = n }
-numbers (Refused x) = record { number = numberOf (x .why); place = x .place; bytes = 0 }
+numbers (Refused x) = answers.unwritten (numberOf (x .why)) (x .place)
 
 -- with the buffer after it
 abbrev pub told : Written → List ℕ → answers.Written × List ℕ

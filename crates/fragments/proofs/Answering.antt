@@ -16,7 +16,7 @@ use Rattle.rules.specs.Packages.{cut, packageOf, pieceOf, Piece}
 use Rattle.rules.specs.Message.{head, payloadStart, notLarge, everyCheck, Message, recordOf, message}
 use Rattle.rules.specs.Reading.{MessageSpot, messageSpot, messageAt}
 use Rattle.rules.specs.Clean.{cleanForm, cleaner}
-use Rattle.rules.specs.Buffer.{Written, stored, fitted}
+use Rattle.rules.specs.Buffer.{Written, unwritten, stored, fitted}
 use Rattle.rules.specs.Valid as rules
 use Rattle.rules.proofs.Outcomes.{pass, halt, step, stop, stop-before, passed, stepped, after, good-inj, good≢bad}
 use Rattle.rules.proofs.Cut as Cut
@@ -288,7 +288,7 @@ module _ (size : ℕ) (s buffer : List ℕ) where
 
 -- ---- one piece, by what the cleaner answered
 
-pub one-refused : (n p : ℕ) (b : List ℕ) {w : Written × List ℕ} → (n ≡ 0 → ⊥) → (record { number = n; place = p; bytes = 0 }, b) ≡ w → answer n p 0 0 b ≡ onePiece w
+pub one-refused : (n p : ℕ) (b : List ℕ) {w : Written × List ℕ} → (n ≡ 0 → ⊥) → (unwritten n p, b) ≡ w → answer n p 0 0 b ≡ onePiece w
 unfolding onePiece
 one-refused n p b h e = rw (← e) (rw (ne-eqb n 0 h))
 

@@ -11,17 +11,17 @@ use Rattle.rules.specs.Items.{items, count}
 use Rattle.rules.specs.Packages.{packageFits, piece, packageOf, pieceOf}
 use Rattle.rules.specs.Message.{head, checksOneToSix, optionRunLength, checksEightAndNine, checksOneToNine, checksOneToTen, everyCheck, recordOf, message}
 use Rattle.rules.specs.Clean.{cleanPiece, cleanBytes, cleanForm}
-use Rattle.rules.specs.Buffer.{fitted, stored}
+use Rattle.rules.specs.Buffer.{unwritten, fitted, stored}
 use Rattle.fragments.specs.Fragment.{parts, isOffset, offsetIn, withoutOffset, fragmentOf, fragment, fragmentBytes}
 use Rattle.fragments.specs.Cutting.{wholeOf, laterFragments, fragmentsWith, noOffset, fragmentsOf, cutWhole, cutInto, roomForAll, cutStored, cutter}
 use Rattle.fragments.specs.Joining.{begins, goesOn, follows, inPlace, complete, fragmentsFrom, keptOptions, joinedWith, atStart, cleanJoined, joined, joiner}
-use Rattle.fragments.specs.Worked.{uncut, refusal, WorkedCuts, WorkedJoins}
+use Rattle.fragments.specs.Worked.{uncut, WorkedCuts, WorkedJoins}
 
 cut-large : (s b : List ℕ) → 65536 < length s → cutter 12 s b ≡ (uncut LARGE 65536, b)
 unfolding cutter cutStored cutInto refuse _>>_ _>>=_
 cut-large s b l = rw (lt-ltb 65536 (length s) l)
 
-join-large : (s b : List ℕ) → 65536 < length s → joiner s b ≡ (refusal LARGE 65536, b)
+join-large : (s b : List ℕ) → 65536 < length s → joiner s b ≡ (unwritten LARGE 65536, b)
 unfolding joiner joined stored refuse _>>_ _>>=_
 join-large s b l = rw (lt-ltb 65536 (length s) l)
 

@@ -12,6 +12,7 @@ use Rattle.rules.specs.Items.{items, All}
 use Rattle.rules.specs.Options.{mostOptionBytes, kindOf}
 use Rattle.rules.specs.Message.{headerBytes, mostBytes, head, payload, Message, message}
 use Rattle.rules.specs.Clean.{cleanForm}
+use Rattle.rules.specs.Buffer.{unwritten}
 use Rattle.rules.specs.Claims.{Careful}
 use Rattle.fragments.specs.Fragment.{WHOLE, FIRST, MIDDLE, LAST, Fragment, optionsOf, offsetOption, offsetOf, fragment, fragmentBytes, bytesOf, payloadsOf, nextNumber}
 use Rattle.fragments.specs.Cutting.{wholeOf, fragmentWith, cutInto, cutter}
@@ -190,9 +191,9 @@ pub record Writes : Type 0 where
 -- What cannot be cut or joined is told so: its number and place, nothing written, and the buffer as it was.
 pub record RefusalsTold : Type 0 where
   pub cutter : (size : ℕ) (s buffer : List ℕ) (n p : ℕ) → cutInto size s ≡ bad n p → cutter size s buffer ≡ (record { number = n; place = p; bytes = 0; fragments = 0 }, buffer)
-  pub joiner : (s buffer : List ℕ) (n p : ℕ) → joined s ≡ bad n p → joiner s buffer ≡ (record { number = n; place = p; bytes = 0 }, buffer)
+  pub joiner : (s buffer : List ℕ) (n p : ℕ) → joined s ≡ bad n p → joiner s buffer ≡ (unwritten n p, buffer)
 
 pub record RoomRefused : Type 0 where
   pub cutter : (size : ℕ) (s buffer : List ℕ) (fs : List Fragment) → cutInto size s ≡ good fs → length buffer < length (bytesOf fs)
       → cutter size s buffer .0 ≡ record { number = ROOM; place = length (bytesOf fs); bytes = 0; fragments = 0 }
-  pub joiner : (s buffer c : List ℕ) → joined s ≡ good c → length buffer < length c → joiner s buffer .0 ≡ record { number = ROOM; place = length c; bytes = 0 }
+  pub joiner : (s buffer c : List ℕ) → joined s ≡ good c → length buffer < length c → joiner s buffer .0 ≡ unwritten ROOM (length c)

@@ -6,7 +6,7 @@ use lib.ListN.{length, replicate}
 use Rattle.rules.specs.Outcome.{SHORT, LENGTH, OPTION, STANDARD, PACKAGE, LARGE, ROOM, COUNT}
 use Rattle.refusal.specs.Numbers.{GAP}
 use Rattle.rules.specs.Message.{mostBytes}
-use Rattle.rules.specs.Buffer.{Written}
+use Rattle.rules.specs.Buffer.{Written, unwritten}
 use Rattle.rules.specs.Table.{words}
 use Rattle.fragments.specs.Cutting.{CutAnswer, cutter}
 use Rattle.fragments.specs.Joining.{joiner}
@@ -68,9 +68,6 @@ uncut n p = record { number = n; place = p; bytes = 0; fragments = 0 }
 abbrev pub used : ℕ → Written
 used n = record { number = 0; place = 0; bytes = n }
 
-abbrev pub refusal : ℕ → ℕ → Written
-refusal n p = record { number = n; place = p; bytes = 0 }
-
 pub record WorkedCuts : Type 0 where
   pub three : cutter 12 dirty (replicate 140 9) ≡ (wrote 132 3, around second ++ replicate 8 9)
   pub fits : cutter 32 dirty (replicate 64 9) ≡ (wrote 64 1, cleaned)
@@ -89,24 +86,24 @@ pub record WorkedJoins : Type 0 where
   pub three : joiner (around second) (replicate 70 9) ≡ (used 64, cleaned ++ replicate 6 9)
   pub one : joiner dirty (replicate 64 9) ≡ (used 64, cleaned)
   pub empty : joiner (emptyWith 0) (replicate 24 9) ≡ (used 24, words (0x10000000 ∷ 0x00000007 ∷ 0x00000005 ∷ 0x00000018 ∷ 0x00000064 ∷ 0x00000000 ∷ []))
-  pub room : joiner (around second) (replicate 63 9) ≡ (refusal ROOM 64, replicate 63 9)
-  pub no-first : (b : List ℕ) → joiner (second ++ third) b ≡ (refusal GAP 0, b)
-  pub no-middle : (b : List ℕ) → joiner (first ++ third) b ≡ (refusal GAP 48, b)
-  pub no-last : (b : List ℕ) → joiner (first ++ second) b ≡ (refusal GAP 92, b)
-  pub twice : (b : List ℕ) → joiner (first ++ around second) b ≡ (refusal GAP 48, b)
-  pub swapped : (b : List ℕ) → joiner (first ++ (third ++ second)) b ≡ (refusal GAP 48, b)
-  pub another-id : (b : List ℕ) → joiner (around (secondWith 0x120000EF 0x00000008 0x00000000 0x00000064 0x86060000 0x000C0000)) b ≡ (refusal GAP 48, b)
-  pub another-time : (b : List ℕ) → joiner (around (secondWith 0x120000EF 0x00000007 0x00000000 0x00000065 0x86060000 0x000C0000)) b ≡ (refusal GAP 48, b)
-  pub another-flag : (b : List ℕ) → joiner (around (secondWith 0x120000EE 0x00000007 0x00000000 0x00000064 0x86060000 0x000C0000)) b ≡ (refusal GAP 48, b)
-  pub another-number : (b : List ℕ) → joiner (around (secondWith 0x120000EF 0x00000007 0x00000001 0x00000064 0x86060000 0x000C0000)) b ≡ (refusal GAP 48, b)
-  pub another-offset : (b : List ℕ) → joiner (around (secondWith 0x120000EF 0x00000007 0x00000000 0x00000064 0x86060000 0x00030000)) b ≡ (refusal GAP 48, b)
-  pub no-offset : (b : List ℕ) → joiner (around (secondWith 0x120000EF 0x00000007 0x00000000 0x00000064 0x85060000 0x000C0000)) b ≡ (refusal GAP 48, b)
+  pub room : joiner (around second) (replicate 63 9) ≡ (unwritten ROOM 64, replicate 63 9)
+  pub no-first : (b : List ℕ) → joiner (second ++ third) b ≡ (unwritten GAP 0, b)
+  pub no-middle : (b : List ℕ) → joiner (first ++ third) b ≡ (unwritten GAP 48, b)
+  pub no-last : (b : List ℕ) → joiner (first ++ second) b ≡ (unwritten GAP 92, b)
+  pub twice : (b : List ℕ) → joiner (first ++ around second) b ≡ (unwritten GAP 48, b)
+  pub swapped : (b : List ℕ) → joiner (first ++ (third ++ second)) b ≡ (unwritten GAP 48, b)
+  pub another-id : (b : List ℕ) → joiner (around (secondWith 0x120000EF 0x00000008 0x00000000 0x00000064 0x86060000 0x000C0000)) b ≡ (unwritten GAP 48, b)
+  pub another-time : (b : List ℕ) → joiner (around (secondWith 0x120000EF 0x00000007 0x00000000 0x00000065 0x86060000 0x000C0000)) b ≡ (unwritten GAP 48, b)
+  pub another-flag : (b : List ℕ) → joiner (around (secondWith 0x120000EE 0x00000007 0x00000000 0x00000064 0x86060000 0x000C0000)) b ≡ (unwritten GAP 48, b)
+  pub another-number : (b : List ℕ) → joiner (around (secondWith 0x120000EF 0x00000007 0x00000001 0x00000064 0x86060000 0x000C0000)) b ≡ (unwritten GAP 48, b)
+  pub another-offset : (b : List ℕ) → joiner (around (secondWith 0x120000EF 0x00000007 0x00000000 0x00000064 0x86060000 0x00030000)) b ≡ (unwritten GAP 48, b)
+  pub no-offset : (b : List ℕ) → joiner (around (secondWith 0x120000EF 0x00000007 0x00000000 0x00000064 0x85060000 0x000C0000)) b ≡ (unwritten GAP 48, b)
   pub reserved : joiner (around (secondWith 0x12A05BEF 0x00000007 0x00000000 0x00000064 0x86060000 0x000C00FF)) (replicate 64 9) ≡ (used 64, cleaned)
-  pub behind : (b : List ℕ) → joiner (around second ++ dirty) b ≡ (refusal GAP 132, b)
-  pub nothing : (b : List ℕ) → joiner [] b ≡ (refusal GAP 0, b)
-  pub gap-first : (b : List ℕ) → joiner (first ++ (third ++ (0 ∷ []))) b ≡ (refusal GAP 48, b)
-  pub short-first : (b : List ℕ) → joiner (first ++ (second ++ (0 ∷ []))) b ≡ (refusal SHORT 92, b)
-  pub standard : (b : List ℕ) → joiner (emptyWith 0x80) b ≡ (refusal STANDARD 0, b)
-  pub bad-package : (b : List ℕ) → joiner (firstWith 0x00028606 0x000B0000 ++ (second ++ third)) b ≡ (refusal PACKAGE 0, b)
-  pub count : (b : List ℕ) → joiner (firstWith 0x00038606 0x000D0000 ++ (second ++ third)) b ≡ (refusal COUNT 0, b)
-  pub large : (s b : List ℕ) → mostBytes < length s → joiner s b ≡ (refusal LARGE mostBytes, b)
+  pub behind : (b : List ℕ) → joiner (around second ++ dirty) b ≡ (unwritten GAP 132, b)
+  pub nothing : (b : List ℕ) → joiner [] b ≡ (unwritten GAP 0, b)
+  pub gap-first : (b : List ℕ) → joiner (first ++ (third ++ (0 ∷ []))) b ≡ (unwritten GAP 48, b)
+  pub short-first : (b : List ℕ) → joiner (first ++ (second ++ (0 ∷ []))) b ≡ (unwritten SHORT 92, b)
+  pub standard : (b : List ℕ) → joiner (emptyWith 0x80) b ≡ (unwritten STANDARD 0, b)
+  pub bad-package : (b : List ℕ) → joiner (firstWith 0x00028606 0x000B0000 ++ (second ++ third)) b ≡ (unwritten PACKAGE 0, b)
+  pub count : (b : List ℕ) → joiner (firstWith 0x00038606 0x000D0000 ++ (second ++ third)) b ≡ (unwritten COUNT 0, b)
+  pub large : (s b : List ℕ) → mostBytes < length s → joiner s b ≡ (unwritten LARGE mostBytes, b)

@@ -8,7 +8,7 @@ use lib.ListN.{replicate}
 use lib.Ieee.{Float, binary64, ofBits}
 use Rattle.rules.specs.Outcome.{Outcome, good, bad}
 use Rattle.rules.specs.Bytes.{at}
-use Rattle.rules.specs.Buffer.{Written}
+use Rattle.rules.specs.Buffer.{Written, unwritten}
 use Rattle.refusal.specs.Numbers.{RADIO}
 use Rattle.radio.specs.Tlv.{signed, unsigned}
 use Rattle.radio.specs.Radio.{tlvWriter}
@@ -131,7 +131,7 @@ handed kind f = elim (eqb kind 1) [
 -- put at place p of a buffer; what is no TLV is refused there
 unfoldable pub handedPut : Handed → ℕ → List ℕ → Written × List ℕ
 handedPut (handedOver.Tlv t) p buffer = tlvWriter t p buffer
-handedPut handedOver.Nothing p buffer = (record { number = RADIO; place = p; bytes = 0 }, buffer)
+handedPut handedOver.Nothing p buffer = (unwritten RADIO p, buffer)
 
 -- a link metric's row: what each reading is, and its double, 0 where it is missing
 abbrev pub kindOf : Reading → ℕ

@@ -11,7 +11,7 @@ use lib.Dec.{ltb, leb}
 use lib.ListN.{length, getD, take, drop, replicate, length-append, length-map, length-replicate, length-take, drop-of-length-le, List·getD-append, List·getD-map}
 use lib.Seq.{sets, drop-cons, take-suc, length-take-le, getD-take}
 use Rattle.rules.specs.Outcome.{good, bad, ROOM}
-use Rattle.rules.specs.Buffer.{Written, fitted, stored}
+use Rattle.rules.specs.Buffer.{unwritten, fitted, stored}
 use Rattle.refusal.specs.Numbers.{TEXT}
 use Rattle.rules.proofs.Outcomes.{pass, halt, step, stop}
 use Rattle.rules.proofs.Loops.{sets-sets}
@@ -178,15 +178,12 @@ module _ (ranges : List IdRange) (w : length ranges ≡ 32) where
       f ∙ rw (ec, g, line-next i (m .least) l) (sets-sets (line ranges i) (comma ∷ itemText (rangeIn (getD ranges i noIds))) b 0)
 
 -- the writer's answer
-abbrev refusedAt : ℕ → ℕ → Written
-refusedAt n p = record { number = n; place = p; bytes = 0 }
-
 module _ (ranges : List IdRange) (n : ℕ) (w : length ranges ≡ 32) (b : List ℕ) where
-  refused-line : {m p : ℕ} → lineOf (handedOver n ranges) ≡ bad m p → (refusedAt m p, b) ≡ writeIds (handedOver n ranges) b
+  refused-line : {m p : ℕ} → lineOf (handedOver n ranges) ≡ bad m p → (unwritten m p, b) ≡ writeIds (handedOver n ranges) b
   unfolding writeIds stored
   refused-line e = sym (ap (stored b) (stop _ _ e))
 
-  pub write-none : n ≡ 0 → (refusedAt TEXT 0, b) ≡ writeIds (handedOver n ranges) b
+  pub write-none : n ≡ 0 → (unwritten TEXT 0, b) ≡ writeIds (handedOver n ranges) b
   unfolding lineOf
   write-none z = refused-line (rw z)
 
@@ -194,7 +191,7 @@ module _ (ranges : List IdRange) (n : ℕ) (w : length ranges ≡ 32) (b : List 
     some : 1 ≤ length (handedOver n ranges)
     some = rw (handed-length ranges n w) (pos-of-ne-zero h)
 
-    pub write-bad : (i : ℕ) → bad TEXT i ≡ rangesKept 0 (handedOver n ranges) → (refusedAt TEXT i, b) ≡ writeIds (handedOver n ranges) b
+    pub write-bad : (i : ℕ) → bad TEXT i ≡ rangesKept 0 (handedOver n ranges) → (unwritten TEXT i, b) ≡ writeIds (handedOver n ranges) b
     write-bad i e = refused-line (line-of-bad _ some (sym e))
 
     module _ (e : good tt ≡ rangesKept 0 (handedOver n ranges)) where
@@ -207,7 +204,7 @@ module _ (ranges : List IdRange) (n : ℕ) (w : length ranges ≡ 32) (b : List 
       line-is : lineOf (handedOver n ranges) ≡ good (line ranges n)
       line-is = line-of-good _ some (sym e) ∙ ap (λ (l : List Range). good (lineText l)) no-more
 
-      pub write-room : (k : ℕ) → k ≡ length (line ranges n) → length b < k → (refusedAt ROOM k, b) ≡ writeIds (handedOver n ranges) b
+      pub write-room : (k : ℕ) → k ≡ length (line ranges n) → length b < k → (unwritten ROOM k, b) ≡ writeIds (handedOver n ranges) b
       unfolding writeIds stored fitted
       write-room k q l = sym (ap (stored b) (step _ _ line-is (halt _ _ _ _ (lt-ltb (length b) (length (line ranges n)) (omega arith)))) ∙ rw q)
 

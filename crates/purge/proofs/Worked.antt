@@ -10,14 +10,15 @@ use Rattle.rules.specs.Options.{lengthAllowed, optionSize, optionFits, isSecond
 use Rattle.rules.specs.Items.{items, count}
 use Rattle.rules.specs.Packages.{packageFits, piece, packageOf, pieceOf}
 use Rattle.rules.specs.Message.{head, checksOneToSix, optionRunLength, checksEightAndNine, checksOneToNine, checksOneToTen, everyCheck, recordOf, message, recording}
+use Rattle.rules.specs.Buffer.{unwritten}
 use Rattle.rules.specs.Writer.{write}
 use Rattle.rules.specs.Sheet.{bigEndian, rowOf, rowFits, row, sheet, grants}
 use Rattle.rules.specs.Copy.{granted}
 use Rattle.rules.specs.Table.{R}
 use Rattle.purge.specs.Purge.{keptPackages, behindKind, countSet, withPackages, losesLast, keptRecord, keptRecords, keptBytes, keptOf, purged, purge}
-use Rattle.purge.specs.Worked.{refusal, Worked}
+use Rattle.purge.specs.Worked.{Worked}
 
-too-large : (buffer : List ℕ) → 65536 < length buffer → purge buffer R ≡ (refusal LARGE 65536, buffer)
+too-large : (buffer : List ℕ) → 65536 < length buffer → purge buffer R ≡ (unwritten LARGE 65536, buffer)
 unfolding purge keptOf purged recording sheet items row bigEndian rowOf rowFits refuse _>>_ _>>=_ _∷>_
 too-large buffer l = rw (lt-ltb 65536 (length buffer) l)
 

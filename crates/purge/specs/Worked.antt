@@ -5,7 +5,7 @@ use mathlib.Core.List.{List, [], _∷_, _++_}
 use lib.ListN.{length, replicate}
 use Rattle.rules.specs.Outcome.{SHORT, ROW, LARGE, COUNT}
 use Rattle.rules.specs.Message.{mostBytes}
-use Rattle.rules.specs.Buffer.{Written}
+use Rattle.rules.specs.Buffer.{Written, unwritten}
 use Rattle.rules.specs.Table.{words, R, optionsWith}
 use Rattle.purge.specs.Purge.{purge}
 
@@ -57,18 +57,15 @@ emptied = words (0x11000000 ∷ 0x00000007 ∷ 0x00000007 ∷ 0x0000001C ∷ 0x0
 abbrev pub used : ℕ → Written
 used n = record { number = 0; place = 0; bytes = n }
 
-abbrev pub refusal : ℕ → ℕ → Written
-refusal n p = record { number = n; place = p; bytes = 0 }
-
 pub record Worked : Type 0 where
   pub purged : purge recorded R ≡ (used 116, left ++ replicate 64 0)
   pub again : purge left R ≡ (used 116, left)
   pub no-rows : purge recorded [] ≡ (used 172, cleaned ++ replicate 8 0)
   pub all-granted : purge recorded everything ≡ (used 28, emptied ++ replicate 152 0)
   pub nothing : purge [] R ≡ (used 0, [])
-  pub row : purge recorded (replicate 31 0) ≡ (refusal ROW 31, recorded)
-  pub row-first : (buffer : List ℕ) → purge buffer (replicate 32 0) ≡ (refusal ROW 0, buffer)
-  pub large : (buffer : List ℕ) → mostBytes < length buffer → purge buffer R ≡ (refusal LARGE mostBytes, buffer)
-  pub late : purge (recorded ++ replicate 23 0) R ≡ (refusal SHORT 180, recorded ++ replicate 23 0)
-  pub count : purge (losesLast ++ optionsWith 0x87060000) R ≡ (refusal COUNT 40, losesLast ++ optionsWith 0x87060000)
+  pub row : purge recorded (replicate 31 0) ≡ (unwritten ROW 31, recorded)
+  pub row-first : (buffer : List ℕ) → purge buffer (replicate 32 0) ≡ (unwritten ROW 0, buffer)
+  pub large : (buffer : List ℕ) → mostBytes < length buffer → purge buffer R ≡ (unwritten LARGE mostBytes, buffer)
+  pub late : purge (recorded ++ replicate 23 0) R ≡ (unwritten SHORT 180, recorded ++ replicate 23 0)
+  pub count : purge (losesLast ++ optionsWith 0x87060000) R ≡ (unwritten COUNT 40, losesLast ++ optionsWith 0x87060000)
   pub appended : purge (left ++ losesLast) R ≡ (used 116, left ++ replicate 40 0)

@@ -10,6 +10,7 @@ use Rattle.refusal.specs.Numbers.{RADIO}
 use Rattle.rules.specs.Bytes.{Bytes}
 use Rattle.rules.specs.Items.{All}
 use Rattle.rules.specs.Message.{mostBytes}
+use Rattle.rules.specs.Buffer.{unwritten}
 use Rattle.rules.specs.Claims.{Careful}
 use Rattle.radio.specs.Row.{linkRow, Says}
 use Rattle.radio.specs.Tlv.{tlvBytes, tlv, cleanTlv, FieldsFit, ValidTlv}
@@ -87,7 +88,7 @@ WriterWrites = (h : Head) (run buffer c : List ℕ) → runWritten h run ≡ goo
     → (radioWriter h run buffer .0 ≡ record { number = 0; place = 0; bytes = length c }) × (take (length c) (radioWriter h run buffer .1) ≡ c)
 
 abbrev pub RoomRefused : Type 0
-RoomRefused = (h : Head) (run buffer c : List ℕ) → runWritten h run ≡ good c → length buffer < length c → radioWriter h run buffer .0 ≡ record { number = ROOM; place = length c; bytes = 0 }
+RoomRefused = (h : Head) (run buffer c : List ℕ) → runWritten h run ≡ good c → length buffer < length c → radioWriter h run buffer .0 ≡ unwritten ROOM (length c)
 
 -- A refusal changes no byte of the buffer, and what is written changes none behind it.
 pub record BuffersKept : Type 0 where

@@ -12,7 +12,7 @@ use Rattle.refusal.specs.Numbers.{RADIO}
 use Rattle.rules.specs.Bytes.{half, word, put16, put32, join}
 use Rattle.rules.specs.Items.{items, All}
 use Rattle.rules.specs.Message.{mostBytes, notLarge}
-use Rattle.rules.specs.Buffer.{Written, stored, fitted}
+use Rattle.rules.specs.Buffer.{Written, unwritten, stored, fitted}
 use Rattle.radio.specs.Tlv.{tlvSize, tlvBytes, tlvFits, tlv, cleanTlv, ValidTlv}
 use Rattle.radio.specs.declared.Head.{Head}
 use Rattle.radio.specs.declared.Tlv.{Tlv}
@@ -93,7 +93,7 @@ tlvPut t p buffer = do
 
 -- the answer, and the buffer after it
 abbrev pub storedAt : List ℕ → ℕ → Outcome (List ℕ) → Written × List ℕ
-storedAt buffer p (bad n q) = (record { number = n; place = q; bytes = 0 }, buffer)
+storedAt buffer p (bad n q) = (unwritten n q, buffer)
 storedAt buffer p (good s) = (record { number = 0; place = 0; bytes = length s }, sets buffer p s)
 
 unfoldable pub tlvWriter : Tlv → ℕ → List ℕ → Written × List ℕ

@@ -8,7 +8,7 @@ use borrow.Author.Tests.{le-ltb, lt-ltb}
 use lib.ListN.{length, take, drop, set}
 use lib.Seq.{sets, sets-eq, length-sets, drop-set-lt, take-append-seam}
 use Rattle.rules.specs.Outcome.{Outcome, good, bad, _>>=_, ROOM}
-use Rattle.rules.specs.Buffer.{Written, fitted, stored}
+use Rattle.rules.specs.Buffer.{Written, unwritten, fitted, stored}
 use Rattle.rules.specs.Copy.{Entry, copyBytes, reported, filled, answered}
 use Rattle.rules.specs.Burst.{randomizedAnswer, openedAnswer}
 use Rattle.rules.specs.Claims.{Careful}
@@ -52,7 +52,7 @@ pub take-sets : (b r : List ℕ) → length r ≤ length b → take (length r) (
 take-sets b r l = rw (sets-eq r b 0 (omega arith), take-append-seam)
 
 -- an outcome without room for it is refused
-pub roomless : (b c : List ℕ) (o : Outcome (List ℕ)) → o ≡ good c → length b < length c → stored b (o >>= fitted b) .0 ≡ record { number = ROOM; place = length c; bytes = 0 }
+pub roomless : (b c : List ℕ) (o : Outcome (List ℕ)) → o ≡ good c → length b < length c → stored b (o >>= fitted b) .0 ≡ unwritten ROOM (length c)
 unfolding stored fitted
 roomless b c o e l = ap (λ (r : Outcome (List ℕ)). stored b r .0) (step _ _ e (halt _ _ _ _ (lt-ltb (length b) (length c) l)))
 
