@@ -57,7 +57,7 @@ on-bad (good ts) e = absurd (good≢bad (sym e))
 on-bad (bad n p) e = cc
 
 -- and is refused as all are
-pub all-refused : (q : ℕ) (s : List ℕ) {n p : ℕ} → length s ≤ q → (takenFrom s q ≡ bad n p) ↔ (items message 0 0 s ≡ bad n p)
+all-refused : (q : ℕ) (s : List ℕ) {n p : ℕ} → length s ≤ q → (takenFrom s q ≡ bad n p) ↔ (items message 0 0 s ≡ bad n p)
 unfolding takenFrom onMessages
 all-refused q s l = (λ e. sym (all-taken q 0 0 s l) ∙ ap onMessages e, λ e. on-bad _ (all-taken q 0 0 s l ∙ e))
 

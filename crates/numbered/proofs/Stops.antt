@@ -1,8 +1,9 @@
--- Where messages are refused, those within a quota or all: those before the refused one pass and are taken; and a message that does not pass refuses those that pass before it.
+-- Where messages within a quota are refused: those before the refused one pass and are taken; and a message that does not pass refuses those that pass before it.
 use Prim.Native.Nat.{ℕ, zero, suc, _+_, _-_, _≤_, _<_}
 use mathlib.Core.Path.{_≡_, refl, ap, sym, _∙_}
 use mathlib.Core.Logic.{⊎-elim}
 use mathlib.Core.List.{List, [], _∷_, _++_, map, append-assoc}
+use native.Mathlib.Nat.{zero-add}
 use native.Mathlib.Omega.{arith}
 use lib.ListN.{length, take, drop, length-append, length-drop, take-append-drop}
 use lib.Seq.{take-all, length-take-le, take-append-seam, drop-append-seam}
@@ -12,9 +13,9 @@ use Rattle.rules.specs.Message.{Message, message}
 use Rattle.rules.proofs.Outcomes.{step, stop, stepped, fronted, front-of, stop-front, refused-step, refused-front, refused-only, good-inj, good≢bad}
 use Rattle.rules.proofs.Alone.{own}
 use Rattle.rules.proofs.Shifted.{refused-further}
+use Rattle.rules.proofs.Reasons.{messages-stopped, messages-refused}
 use Rattle.numbered.specs.Quota.{Taken, takenAt, firstItems, takenFrom, messageOf, bytesTaken}
 use Rattle.numbered.proofs.Messages.{own-here, own-front, messages-append, first-taken}
-use Rattle.numbered.proofs.First.{all-refused}
 
 -- ---- what stands before a message that is refused within a quota
 
@@ -95,10 +96,6 @@ stopped s quota e =
       refused = rw z at (w .refused);
     }
 
--- among all messages
-pub stopped-all : (s : List ℕ) {n r : ℕ} → items message 0 0 s ≡ bad n r → Stopped s (length s) n r
-stopped-all s e = stopped s (length s) (all-refused (length s) s (omega arith) .1 e)
-
 -- ---- a message that does not pass, behind messages that do, fewer than the quota
 
 behind-first : (q k p : ℕ) (a b : List ℕ) {ms : List Message} {n r : ℕ} → k ≤ length a → 1 ≤ length b → length ms < q → items message k p a ≡ good ms → message (p + length a) b ≡ bad n r
@@ -121,25 +118,21 @@ behind-first (suc q) zero p (x ∷ a) b h l few e f =
     let z : suc p + length a ≡ p + suc (length a) = omega arith in
     step _ _ (step _ _ (own-here p p (x ∷ a) b (r .0) (r .1) g) refl) (stop-front _ _ (behind-first q (r .1 - 1) (suc p) a b c l (omega (arith, ap length m)) i (rw z f)))
 
-module _ (s : List ℕ) (place : ℕ) {ms : List Message} {n r : ℕ} (inside : place < length s) (read : items message 0 0 (take place s) ≡ good ms) (refused : message place (drop place s) ≡ bad n r) where
-  pub refused-within : (quota : ℕ) → length ms < quota → takenFrom s quota ≡ bad n r
-  unfolding takenFrom
-  refused-within quota few =
-      let z : 0 + length (take place s) ≡ place = omega (arith, length-take-le place s (omega (arith, inside))) in
-      ap (firstItems takenAt quota 0 0) (sym (take-append-drop place s)) ∙ behind-first quota 0 0 (take place s) (drop place s) (omega arith) (omega (arith, inside, length-drop place s)) few read (rw z refused)
-
-  -- and among all messages
-  pub refused-behind : items message 0 0 s ≡ bad n r
-  refused-behind = all-refused (suc (length ms + length s)) s (omega arith) .0 (refused-within (suc (length ms + length s)) (omega arith))
+pub refused-within : (s : List ℕ) (place : ℕ) {ms : List Message} {n r : ℕ} → place < length s → items message 0 0 (take place s) ≡ good ms → message place (drop place s) ≡ bad n r
+    → (quota : ℕ) → length ms < quota → takenFrom s quota ≡ bad n r
+unfolding takenFrom
+refused-within s place inside read refused quota few =
+    let z : 0 + length (take place s) ≡ place = omega (arith, length-take-le place s (omega arith)) in
+    ap (firstItems takenAt quota 0 0) (sym (take-append-drop place s)) ∙ behind-first quota 0 0 (take place s) (drop place s) (omega arith) (omega (arith, length-drop place s)) few read (rw z refused)
 
 -- messages that are refused, behind messages that pass: the place is counted on
 pub refused-joined : (a b : List ℕ) {ms : List Message} {n r : ℕ} → items message 0 0 a ≡ good ms → items message 0 0 b ≡ bad n r → items message 0 0 (a ++ b) ≡ bad n (length a + r)
 refused-joined a b e f =
-    let w = stopped-all b f in
+    let w = messages-stopped b f in
     let front : List ℕ = a ++ take (w .place) b in
     let rest : List ℕ = drop (w .place) b in
     let long : length front ≡ length a + w .place = length-append a (take (w .place) b) ∙ ap (λ (k : ℕ). length a + k) (length-take-le (w .place) b (omega (arith, w .inside))) in
     ap (items message 0 0) (ap (λ (l : List ℕ). a ++ l) (sym (take-append-drop (w .place) b)) ∙ sym (append-assoc a (take (w .place) b) rest))
-    ∙ refused-behind (front ++ rest) (length front) (omega (arith, length-append front rest, length-drop (w .place) b, w .inside))
-    (ap (items message 0 0) (take-append-seam front rest) ∙ messages-append 0 0 0 a (take (w .place) b) (omega arith) e (w .read))
-    (ap (message (length front)) (drop-append-seam front rest) ∙ ap (λ (k : ℕ). message k rest) long ∙ refused-further (length a) (w .place) rest (w .refused))
+    ∙ messages-refused (front ++ rest) (length front) (omega (arith, length-append front rest, length-drop (w .place) b, w .inside))
+    (ap (items message 0 0) (take-append-seam front rest) ∙ messages-append 0 0 0 a (take (w .place) b) (omega arith) e (w .passes))
+    (ap (message (length front)) (drop-append-seam front rest) ∙ ap (λ (k : ℕ). message k rest) long ∙ refused-further (length a) (w .place) rest (rw zero-add at (w .refused)))

@@ -9,7 +9,7 @@ use native.Mathlib.Omega.{arith}
 use borrow.Author.Tests.{le-ltb, lt-ltb, ltb-true, ltb-false, eq-eqb, eqb-true, not-false}
 use lib.Dec.{ltb, eqb}
 use lib.ListN.{length, take, drop, length-append, length-drop, take-append-drop}
-use lib.Seq.{length-take-le, take-append-seam, drop-append-seam}
+use lib.Seq.{length-take-le}
 use Rattle.rules.specs.Outcome.{Outcome, good, bad, _>>=_, _>>_, OPTION, ROW, ROOM}
 use Rattle.rules.specs.Items.{items}
 use Rattle.rules.specs.Message.{notLarge, head, optionRunLength, checksOneToNine, checksOneToTen, everyCheck, Message, message, recording}
@@ -21,23 +21,12 @@ use Rattle.rules.specs.Sheet.{Row, row, sheet, sheetRows}
 use Rattle.rules.specs.Copy.{Entry, copyBytes, releasedOf, Answer, refusal, reported, measurement, roomFor, filled, answered, copy}
 use Rattle.rules.specs.Claims.{BadRecording, large, bad-message, BadSheet, SheetSize, bad-size, bad-row, ReleaseRefused, by-sheet, by-recording, DraftRefused, CleaningRefused, Unstored, itself, no-room}
 use Rattle.rules.proofs.Outcomes.{pass, halt, step, stop, neither, good≢bad, refused-at, refused-pass, refused-step, refused-only}
-use Rattle.rules.proofs.Stops.{Owns, stopped, refused-behind}
+use Rattle.rules.proofs.Stops.{Owns, Stopped, stopped, refused-behind}
 use Rattle.rules.proofs.Gives.{numbered-message, header-numbered, message-early}
 use Rattle.rules.proofs.Writer.{draft-refused, draft-numbered}
 use Rattle.rules.proofs.Nevers.{never-released}
 use Rattle.rules.proofs.Alone as Alone
 use Rattle.rules.proofs.Joined.{row-placed, row-size, row-front}
-
--- what stands in front and behind, by the place between
-module _ (f b s : List ℕ) (split : f ++ b ≡ s) where
-  front-is : take (length f) s ≡ f
-  front-is = rw (← split) (take-append-seam f b)
-
-  behind-is : drop (length f) s ≡ b
-  behind-is = rw (← split) (drop-append-seam f b)
-
-  between : 1 ≤ length b → length f < length s
-  between l = rw (← split) (omega (arith, length-append f b))
 
 -- ---- a recording
 
@@ -47,24 +36,25 @@ Any s = Unit {0}
 message-owns : (p : ℕ) (s : List ℕ) (m : Message) (n : ℕ) → Any s → 1 ≤ length s → message p s ≡ good (m, n) → Owns message Any s m n
 message-owns p s m n f l e = let o = Alone.own p s m n e in record { least = omega (arith, o .least); most = o .most; again = o .again; rest = tt; joined = λ t f. tt }
 
+-- where messages are refused, and that they are refused there
+pub messages-stopped : (s : List ℕ) {n p : ℕ} → items message 0 0 s ≡ bad n p → Stopped message Any 0 s n p
+messages-stopped s e = stopped message Any tt message-owns 0 s tt e
+
+pub messages-refused : (s : List ℕ) (place : ℕ) {ms : List Message} {n p : ℕ} → place < length s → items message 0 0 (take place s) ≡ good ms → message place (drop place s) ≡ bad n p → items message 0 0 s ≡ bad n p
+messages-refused s place l e r = refused-behind message Any tt message-owns 0 s place l tt e (rw zero-add r)
+
 recording-there : (s : List ℕ) {n p : ℕ} → recording s ≡ bad n p → BadRecording s n p
 unfolding recording
 recording-there s e =
     ⊎-elim
     (λ z. rw (← z .1, ← z .2) (large (ltb-true 65536 (length s) (z .0))))
-    (λ z.
-    let w = stopped message Any tt message-owns 0 s tt (z .1) in
-    bad-message (ltb-false 65536 (length s) (z .0)) (ap (items message 0 0) (front-is (w .front) (w .behind) s (w .split)) ∙ w .passes) (between (w .front) (w .behind) s (w .split) (w .some))
-    (ap (message (length (w .front))) (behind-is (w .front) (w .behind) s (w .split)) ∙ rw zero-add at (w .refused)))
+    (λ z. let w = messages-stopped s (z .1) in bad-message (ltb-false 65536 (length s) (z .0)) (w .passes) (w .inside) (rw zero-add at (w .refused)))
     (refused-at _ _ _ _ e)
 
 recording-back : (s : List ℕ) {n p : ℕ} → BadRecording s n p → recording s ≡ bad n p
 unfolding recording
 recording-back s (large l) = halt _ _ _ _ (lt-ltb 65536 (length s) l)
-recording-back s (bad-message {q = q} l e h r) =
-    let z : 0 + length (take q s) ≡ q = omega (arith, length-take-le q s (omega arith)) in
-    pass _ _ _ _ (le-ltb 65536 (length s) l)
-    (ap (items message 0 0) (sym (take-append-drop q s)) ∙ refused-behind message Any tt message-owns (drop q s) (omega (arith, length-drop q s)) 0 (take q s) tt e (rw z r))
+recording-back s (bad-message {q = q} l e h r) = pass _ _ _ _ (le-ltb 65536 (length s) l) (messages-refused s q h e r)
 
 pub recording-refused : (s : List ℕ) (n p : ℕ) → (recording s ≡ bad n p) ↔ BadRecording s n p
 recording-refused s n p = (recording-there s, recording-back s)
@@ -203,20 +193,16 @@ sheet-there s e =
     let (a, b) = neither _ _ (z .0) in
     let c : length s % 32 ≡ 0 = eqb-true _ _ (not-false _ b) in
     let w = stopped row Whole refl row-owns 0 s c (z .1) in
-    let k : length (w .front) / 32 * 32 ≡ length (w .front) = omega (arith, w .whole) in
-    row-stopped s (length (w .front) / 32) {before = w .before} (ltb-false 1024 (length s) a, c)
-    (rw k (ap (items row 0 0) (front-is (w .front) (w .behind) s (w .split)) ∙ w .passes)) (rw k (between (w .front) (w .behind) s (w .split) (w .some)))
-    (rw k (ap (row (length (w .front))) (behind-is (w .front) (w .behind) s (w .split)) ∙ rw zero-add at (w .refused))))
+    let k : w .place / 32 * 32 ≡ w .place = omega (arith, w .whole, length-take-le (w .place) s (omega (arith, w .inside))) in
+    row-stopped s (w .place / 32) {before = w .before} (ltb-false 1024 (length s) a, c) (rw k (w .passes)) (rw k (w .inside)) (rw k (rw zero-add at (w .refused))))
     (refused-at _ _ _ _ e)
 
 sheet-back : (s : List ℕ) {n p : ℕ} → BadSheet s n p → sheet s ≡ bad n p
 unfolding sheet
 sheet-back s (bad-size h) = halt _ _ _ _ (no-size s h _ refl _ refl)
 sheet-back s (bad-row i w e h r) =
-    let z : 0 + length (take (i * 32) s) ≡ i * 32 = omega (arith, length-take-le (i * 32) s (omega arith)) in
     let y : length (take (i * 32) s) % 32 ≡ 0 = omega (arith, length-take-le (i * 32) s (omega arith)) in
-    pass _ _ _ _ (size-test s w)
-    (ap (items row 0 0) (sym (take-append-drop (i * 32) s)) ∙ refused-behind row Whole refl row-owns (drop (i * 32) s) (omega (arith, length-drop (i * 32) s)) 0 (take (i * 32) s) y e (rw z r))
+    pass _ _ _ _ (size-test s w) (refused-behind row Whole refl row-owns 0 s (i * 32) h y e (rw zero-add r))
 
 pub sheet-refused : (s : List ℕ) (n p : ℕ) → (sheet s ≡ bad n p) ↔ BadSheet s n p
 sheet-refused s n p = (sheet-there s, sheet-back s)

@@ -1,11 +1,11 @@
 -- Where items that follow each other are refused: those before pass, and the next one does not.
-use Prim.Native.Nat.{ℕ, zero, suc, _+_, _-_, _≤_}
+use Prim.Native.Nat.{ℕ, zero, suc, _+_, _-_, _≤_, _<_}
 use mathlib.Core.Path.{_≡_, refl, ap, sym, _∙_}
 use mathlib.Core.Logic.{⊎-elim}
 use mathlib.Core.List.{List, [], _∷_, _++_, append-assoc}
 use native.Mathlib.Omega.{arith}
 use lib.ListN.{length, take, drop, length-append, length-drop, take-append-drop}
-use lib.Seq.{length-take-le, drop-append-seam}
+use lib.Seq.{length-take-le, drop-append-seam, take-add, drop-drop}
 use Rattle.rules.specs.Outcome.{Outcome, good, bad, _∷>_}
 use Rattle.rules.specs.Items.{items}
 use Rattle.rules.proofs.Outcomes.{stop-front, stepped, fronted, front-of, refused-step, refused-front, good≢bad}
@@ -21,16 +21,14 @@ module _ {A : Type 0} (read : ℕ → List ℕ → Outcome (A × ℕ)) (Fine : L
     pub rest : Fine (drop n s)
     pub joined : (t : List ℕ) → Fine t → Fine (take n s ++ t)
 
-  -- s stands at place p: the items in its front pass, and the one behind them is refused
+  -- s stands at place p: the items before a place of s pass, and the one there is refused
   pub record Stopped (p : ℕ) (s : List ℕ) (n q : ℕ) : Type 0 where
-    pub front : List ℕ
-    pub behind : List ℕ
-    pub split : front ++ behind ≡ s
-    pub some : 1 ≤ length behind
-    pub whole : Fine front
+    pub place : ℕ
+    pub inside : place < length s
+    pub whole : Fine (take place s)
     pub before : List A
-    pub passes : items read 0 p front ≡ good before
-    pub refused : read (p + length front) behind ≡ bad n q
+    pub passes : items read 0 p (take place s) ≡ good before
+    pub refused : read (p + place) (drop place s) ≡ bad n q
 
   module _ (none : Fine []) (own : (p : ℕ) (s : List ℕ) (a : A) (n : ℕ) → Fine s → 1 ≤ length s → read p s ≡ good (a, n) → Owns s a n) where
     -- an item in front of others
@@ -42,17 +40,15 @@ module _ {A : Type 0} (read : ℕ → List ℕ → Outcome (A × ℕ)) (Fine : L
 
     stopped-next : (p : ℕ) (s : List ℕ) (a : A) (k : ℕ) {n q : ℕ} → Owns s a k → Stopped (p + k) (drop k s) n q → Stopped p s n q
     stopped-next p s a k o w =
-        let z : length (take k s) ≡ k = length-take-le k s (o .most) in
-        let y : p + length (take k s ++ w .front) ≡ p + k + length (w .front) = omega (arith, length-append (take k s) (w .front), z) in
+        let front : take (k + w .place) s ≡ take k s ++ take (w .place) (drop k s) = take-add k (w .place) s in
+        let y : p + (k + w .place) ≡ p + k + w .place = omega arith in
         record {
-          front = take k s ++ w .front;
-          behind = w .behind;
-          split = append-assoc (take k s) (w .front) (w .behind) ∙ ap (λ (u : List ℕ). take k s ++ u) (w .split) ∙ take-append-drop k s;
-          some = w .some;
-          whole = o .joined (w .front) (w .whole);
+          place = k + w .place;
+          inside = omega (arith, w .inside, length-drop k s, o .most);
+          whole = rw front (o .joined (take (w .place) (drop k s)) (w .whole));
           before = a ∷ w .before;
-          passes = ahead p s (w .front) a k o ∙ front-of _ _ (w .passes);
-          refused = rw y (w .refused);
+          passes = rw front (ahead p s (take (w .place) (drop k s)) a k o ∙ front-of _ _ (w .passes));
+          refused = rw (y, ← drop-drop (w .place) k s) (w .refused);
         }
 
     -- bytes that are refused are refused so
@@ -63,7 +59,7 @@ module _ {A : Type 0} (read : ℕ → List ℕ → Outcome (A × ℕ)) (Fine : L
     stopped-by p (x ∷ s) shorter f e =
         let z : p + 0 ≡ p = omega arith in
         ⊎-elim
-        (λ b. record { front = []; behind = x ∷ s; split = refl; some = omega arith; whole = none; before = []; passes = refl; refused = rw z b })
+        (λ b. record { place = 0; inside = omega arith; whole = none; before = []; passes = refl; refused = rw z b })
         (λ g.
         let o = own p (x ∷ s) (g .0 .0) (g .0 .1) f (omega arith) (g .1) in
         let r = sym (items-behind read (g .0 .1) p x s (o .least)) ∙ refused-front _ _ (g .2) in
@@ -100,5 +96,9 @@ module _ {A : Type 0} (read : ℕ → List ℕ → Outcome (A × ℕ)) (Fine : L
       behind-within zero p s h f e r = behind-by p s (λ p′ s′ l′ j. absurd (omega arith)) f e r
       behind-within (suc most) p s h f e r = behind-by p s (λ p′ s′ l′ j f′ e′ r′. behind-within most p′ s′ (omega arith) f′ e′ r′) f e r
 
-      pub refused-behind : (p : ℕ) (s : List ℕ) {l : List A} → Fine s → items read 0 p s ≡ good l → read (p + length s) t ≡ bad n q → items read 0 p (s ++ t) ≡ bad n q
-      refused-behind p s f e r = behind-within (length s) p s (omega arith) f e r
+    pub refused-behind : (p : ℕ) (s : List ℕ) (place : ℕ) {l : List A} {n q : ℕ} → place < length s → Fine (take place s) → items read 0 p (take place s) ≡ good l → read (p + place) (drop place s) ≡ bad n q
+        → items read 0 p s ≡ bad n q
+    refused-behind p s place inside f e r =
+        let z : p + length (take place s) ≡ p + place = omega (arith, length-take-le place s (omega arith)) in
+        ap (items read 0 p) (sym (take-append-drop place s))
+        ∙ behind-within (drop place s) (omega (arith, length-drop place s)) (length (take place s)) p (take place s) (omega arith) f e (rw z r)

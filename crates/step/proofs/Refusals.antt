@@ -11,11 +11,11 @@ use Rattle.rules.specs.Buffer.{fitted}
 use Rattle.rules.specs.Sheet.{Row}
 use Rattle.rules.specs.Copy.{Entry, released}
 use Rattle.rules.proofs.Outcomes.{step, stop, pass, halt, after, stop-before, refused-at, refused-step, refused-after, refused-only, good≢bad}
-use Rattle.rules.proofs.Reasons.{sheet-refused}
+use Rattle.rules.proofs.Reasons.{messages-refused, sheet-refused}
 use Rattle.numbered.specs.Numbering.{numberedBytes, State, runningIn}
 use Rattle.numbered.specs.Quota.{Taken, takenFrom, messageOf, idsFit, delivering, Report, reported, numberedCopy}
 use Rattle.numbered.proofs.Ids.{ids-few, ids-good}
-use Rattle.numbered.proofs.Stops.{stopped, refused-within, refused-behind}
+use Rattle.numbered.proofs.Stops.{stopped, refused-within}
 use Rattle.step.specs.Step as spec
 use Rattle.step.specs.Claims.{nothing, RefusedWithin, QuotaRefuses, BeforeMessages, StepRefused, bad-state, bad-sheet, large, bad-message, too-many, no-room, StepRefusedExactly}
 use Rattle.step.proofs.States.{running-few}
@@ -33,7 +33,7 @@ module _ (input : List ℕ) (quota n p : ℕ) where
   pub within-quota : QuotaRefuses input quota n p
   within-quota = record {
     exactly = (within, λ w. refused-within input (w .place) (w .inside) (w .read) (w .refused) quota (w .few));
-    as-all = λ e. let w = within e in refused-behind input (w .place) (w .inside) (w .read) (w .refused);
+    as-all = λ e. let w = within e in messages-refused input (w .place) (w .inside) (w .read) (w .refused);
   }
 
 -- ---- a step

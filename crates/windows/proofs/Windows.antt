@@ -3,9 +3,9 @@ use Prim.Native.Nat.{ℕ, _+_, _≤_, _<_}
 use mathlib.Core.Path.{_≡_, refl, ap, sym, subst, _∙_}
 use mathlib.Core.Bool.{Bool, true, false, _&&_}
 use mathlib.Core.Logic.{_⊎_, inl, inr, ⊎-elim}
-use mathlib.Core.List.{List, [], _++_, map, append-assoc, append-nil}
+use mathlib.Core.List.{List, [], _++_, append-assoc, append-nil}
 use native.Mathlib.Omega.{arith}
-use native.Mathlib.Nat.{pos-of-ne-zero}
+use native.Mathlib.Nat.{zero-add, pos-of-ne-zero}
 use borrow.Author.Tests.{ltb-true, ltb-false, leb-true, le-leb, eqb-true, eq-eqb}
 use lib.Dec.{ltb, leb, eqb}
 use lib.ListN.{length, take, drop, length-append, take-append-drop}
@@ -18,9 +18,9 @@ use Rattle.rules.proofs.Outcomes.{halt, passed, refused-pass, bad-inj, good-inj
 use Rattle.rules.proofs.Gives.{cut-place}
 use Rattle.rules.proofs.Walk.{items-stop}
 use Rattle.rules.proofs.Final.{final}
-use Rattle.numbered.specs.Quota.{messageOf}
+use Rattle.rules.proofs.Reasons.{messages-stopped, messages-refused}
 use Rattle.numbered.proofs.Messages.{own-front, messages-append, small-recording, never-large}
-use Rattle.numbered.proofs.Stops.{stopped-all, refused-behind, refused-joined}
+use Rattle.numbered.proofs.Stops.{refused-joined}
 use Rattle.windows.specs.Window.{isCut, endingBefore, handedBy, handedOver}
 use Rattle.windows.specs.Claims.{HandedOver, FirstCut, Windows, last, next}
 
@@ -65,13 +65,14 @@ pub record CutWindow (window : List ℕ) (n p : ℕ) : Type 0 where
 cut-window : (window : List ℕ) (n p : ℕ) → isCut n ≡ true → recording window ≡ bad n p → CutWindow window n p
 cut-window window n p c e =
     let k = cut-is n c in
-    let w = stopped-all window (refused-message window n p (λ z. ⊎-elim (λ a. omega (arith, a, z)) (λ a. omega (arith, a, z)) k) e) in
-    let z = cut-place _ _ n p (w .refused) k in
+    let w = messages-stopped window (refused-message window n p (λ z. ⊎-elim (λ a. omega (arith, a, z)) (λ a. omega (arith, a, z)) k) e) in
+    let r = rw zero-add at (w .refused) in
+    let z = cut-place _ _ n p r k in
     record {
       inside = omega (arith, w .inside, z);
-      messages = map messageOf (w .ts);
-      read = ap (λ (j : ℕ). items message 0 0 (take j window)) z ∙ w .read;
-      refused = ap (λ (j : ℕ). message j (drop j window)) z ∙ w .refused;
+      messages = w .before;
+      read = ap (λ (j : ℕ). items message 0 0 (take j window)) z ∙ w .passes;
+      refused = ap (λ (j : ℕ). message j (drop j window)) z ∙ r;
     }
 
 -- by its number
@@ -163,12 +164,12 @@ still-refused true s behind d n p t h e = let (a, b) = not-cut n t in final d s 
 whole-refused : (before window behind : List ℕ) (goesOn : Bool) (ms : List Message) (n p : ℕ) → items message 0 0 before ≡ good ms → (goesOn ≡ false → behind ≡ [])
     → (goesOn && isCut n) ≡ false → items message 0 0 window ≡ bad n p → items message 0 0 (before ++ window ++ behind) ≡ bad n (length before + p)
 whole-refused before window behind goesOn ms n p b h t e =
-    let w = stopped-all window e in
+    let w = messages-stopped window e in
     let l : w .place ≤ length window = omega (arith, w .inside) in
     ap (items message 0 0) (append-assoc before window behind)
     ∙ refused-joined before (window ++ behind) b
-    (refused-behind (window ++ behind) (w .place) (omega (arith, length-append window behind, w .inside)) (ap (items message 0 0) (take-append-le (w .place) window behind l) ∙ w .read)
-    (ap (message (w .place)) (drop-append-le (w .place) window behind l) ∙ still-refused goesOn (drop (w .place) window) behind (w .place) n p t h (w .refused)))
+    (messages-refused (window ++ behind) (w .place) (omega (arith, length-append window behind, w .inside)) (ap (items message 0 0) (take-append-le (w .place) window behind l) ∙ w .passes)
+    (ap (message (w .place)) (drop-append-le (w .place) window behind l) ∙ still-refused goesOn (drop (w .place) window) behind (w .place) n p t h (rw zero-add at (w .refused))))
 
 pub refused-as-whole : (before window behind : List ℕ) (goesOn : Bool) (ms : List Message) (n p : ℕ) → items message 0 0 before ≡ good ms → (goesOn ≡ false → behind ≡ [])
     → length window ≤ 65536 → handedOver goesOn window ≡ bad n p → (n ≡ LARGE → ⊥) → items message 0 0 (before ++ window ++ behind) ≡ bad n (length before + p)
