@@ -1,26 +1,25 @@
 -- Which file is refused, and where: at its header, or at the first record that its end cuts.
-use Prim.Native.Nat.{ℕ, zero, suc, _+_, _-_, _≤_, _<_}
+use Prim.Native.Nat.{ℕ, _+_, _-_, _≤_, _<_}
 use mathlib.Core.Path.{_≡_, refl, ap, ap₂, sym, subst, _∙_}
 use mathlib.Core.Logic.{⊎-elim}
 use mathlib.Core.Bool.{Bool, true, false}
-use mathlib.Core.List.{List, [], _∷_, _++_, map, append-assoc}
-use native.Mathlib.Nat.{add-zero, add-suc, suc-add}
+use mathlib.Core.List.{List, _++_, map}
 use native.Mathlib.Omega.{arith}
 use borrow.Author.Tests.{le-leb, le-ltb, lt-ltb, ltb-true, ltb-false}
 use lib.ListN.{length, take, drop, length-append, length-drop, take-append-drop, List·getD-append}
-use lib.Seq.{take-add, take-append-seam, drop-append-seam, drop-append-le, drop-at, drop-drop, length-take-le}
+use lib.Seq.{take-add, take-append-seam, take-append-le, drop-append-seam, drop-append-le, drop-at, drop-drop, length-take-le}
 use Rattle.rules.specs.Outcome.{Outcome, good, bad}
 use Rattle.refusal.specs.Numbers.{CAPTURE}
-use Rattle.rules.specs.Bytes.{Bytes, join}
-use Rattle.rules.specs.Items.{items, All, all-nil, all-cons}
-use Rattle.rules.proofs.Outcomes.{pass, halt, step, stop, stop-front, bad-inj, good≢bad, refused-at, refused-pass, refused-step, refused-front}
-use Rattle.rules.proofs.Numbers.{word-append, half-append, bytes-tail, bytes-drop, bytes-take}
-use Rattle.rules.proofs.Walk.{items-next}
-use Rattle.rules.proofs.Loops.{drop-pred}
+use Rattle.rules.specs.Bytes.{Bytes, part, join}
+use Rattle.rules.specs.Items.{items, All}
+use Rattle.rules.proofs.Outcomes.{pass, halt, step, stop, passed, bad-inj, good-inj, good≢bad, refused-at, refused-pass, refused-step}
+use Rattle.rules.proofs.Numbers.{word-append, half-append, bytes-drop, bytes-take}
+use Rattle.rules.proofs.Stops as Stops
+use Rattle.rules.proofs.Stops.{Any}
 use Rattle.capture.specs.File.{Order, big, little, halfIn, wordIn, headerGood, orderOf, Packet, packet, packets, recordIn, fileIn}
 use Rattle.capture.specs.Claims.{Fits, FileOf, FileRefused, large, header, cut}
-use Rattle.capture.proofs.Orders.{word-behind, record-length, packet-again, cut-refused, behind-header, file-length, good-order}
-use Rattle.capture.proofs.Only.{Back, read-back, order-good, header-long, file-of}
+use Rattle.capture.proofs.Orders.{word-behind, records-again, packet-cut, behind-header, file-length, good-order}
+use Rattle.capture.proofs.Only.{all-back, order-good, header-long, file-of}
 
 -- ---- records
 
@@ -35,61 +34,74 @@ record Cut (o : Order) (p : ℕ) (s : List ℕ) (n q : ℕ) : Type 0 where
   place : q ≡ p + length (join (map (recordIn o) before))
   short : length rest < 16 + wordIn o rest 8
 
-cut-first : (o : Order) (p : ℕ) (s : List ℕ) {n q : ℕ} → 1 ≤ length s → CAPTURE ≡ n → p ≡ q → length s < 16 + wordIn o s 8 → Cut o p s n q
-cut-first o p s l a b h = record { number = sym a; before = []; fit = all-nil; rest = s; is = refl; some = l; place = sym b ∙ sym (add-zero p); short = h }
-
-cut-here : (o : Order) (p : ℕ) (s : List ℕ) {n q : ℕ} → 1 ≤ length s → packet o p s ≡ bad n q → Cut o p s n q
-unfolding packet
-cut-here o p s l e =
-    ⊎-elim
-    (λ z. cut-first o p s l (z .1) (z .2) (omega (arith, ltb-true (length s) 16 (z .0))))
-    (λ e. ⊎-elim (λ z. cut-first o p s l (z .1) (z .2) (ltb-true (length s) (16 + wordIn o s 8) (z .0))) (λ e. absurd (good≢bad (sym e))) (refused-pass _ _ _ _ e))
-    (refused-pass _ _ _ _ e)
-
--- a whole record more in front
-cut-next : (o : Order) (p x : ℕ) (s : List ℕ) (k : Packet) (j : ℕ) {n q : ℕ} → Back o (x ∷ s) k j → Cut o (suc p + (j - 1)) (drop (j - 1) s) n q → Cut o p (x ∷ s) n q
-cut-next o p x s k j b w =
-    let r : List ℕ = join (map (recordIn o) (w .before)) in
-    record {
-      number = w .number;
-      before = k ∷ w .before;
-      fit = all-cons (b .fit) (w .fit);
-      rest = w .rest;
-      is = append-assoc (recordIn o k) r (w .rest) ∙ ap (λ (t : List ℕ). recordIn o k ++ t) (w .is ∙ sym (drop-pred j x s (b .least))) ∙ b .is;
-      some = w .some;
-      place = omega (arith, w .place, b .least, b .size, length-append (recordIn o k) r);
-      short = w .short;
-    }
-
-cut-off : (o : Order) (k p : ℕ) (s : List ℕ) {n q : ℕ} → Bytes s → items (packet o) k p s ≡ bad n q → Cut o (p + k) (drop k s) n q
-unfolding items
-cut-off o k p [] b e = absurd (good≢bad (sym e))
-cut-off o (suc k) p (x ∷ s) b e = rw (add-suc, ← suc-add) (cut-off o k (suc p) s (bytes-tail b) e)
-cut-off o zero p (x ∷ s) b e =
-    rw add-zero
-    (⊎-elim
-    (λ z. cut-here o p (x ∷ s) (omega arith) z)
-    (λ z. cut-next o p x s (z .0 .0) (z .0 .1) (read-back o p (x ∷ s) (z .0 .0) (z .0 .1) b (z .1)) (cut-off o (z .0 .1 - 1) (suc p) s (bytes-tail b) (refused-front _ _ (z .2))))
-    (refused-step _ _ e))
-
--- and such records are refused there
-refused-behind : (o : Order) (p : ℕ) (rest : List ℕ) {ks : List Packet} → All Fits ks → 1 ≤ length rest → length rest < 16 + wordIn o rest 8
-    → items (packet o) 0 p (join (map (recordIn o) ks) ++ rest) ≡ bad CAPTURE (p + length (join (map (recordIn o) ks)))
-refused-behind o p rest all-nil l h = rw add-zero (cut-refused o p rest l h)
-refused-behind o p rest (all-cons {a = k} {l = ks} f r) l h =
-    let t : List ℕ = join (map (recordIn o) ks) in
-    let z : p + length (recordIn o k) + length t ≡ p + length (recordIn o k ++ t) = omega (arith, length-append (recordIn o k) t) in
-    ap (items (packet o) 0 p) (append-assoc (recordIn o k) t rest)
-    ∙ items-next (packet o) p (recordIn o k ++ (t ++ rest)) k (length (recordIn o k)) (omega (arith, length-append (recordIn o k) (t ++ rest), record-length k o)) (omega (arith, record-length k o)) (packet-again k f o p (t ++ rest))
-    ∙ stop-front _ _ (ap (items (packet o) 0 (p + length (recordIn o k))) (drop-append-seam (recordIn o k) (t ++ rest)) ∙ refused-behind o (p + length (recordIn o k)) rest r l h ∙ ap (bad CAPTURE) z)
-
--- ---- the file header, which is told by its own bytes
-
 word-before : (o : Order) (s t : List ℕ) (k : ℕ) → k + 3 < length s → wordIn o (s ++ t) k ≡ wordIn o s k
 unfolding wordIn
 word-before big s t k h = word-append s t k h
 word-before little s t k h =
     rw (List·getD-append s t 0 k (omega arith), List·getD-append s t 0 (k + 1) (omega arith), List·getD-append s t 0 (k + 2) (omega arith), List·getD-append s t 0 (k + 3) h)
+
+-- a record is read by its own bytes, wherever they stand and whatever follows them
+abbrev held : Order → List ℕ → Packet
+held o c = record { seconds = wordIn o c 0; micros = wordIn o c 4; original = wordIn o c 12; bytes = part 16 (16 + wordIn o c 8) c }
+
+packet-front : (o : Order) (p : ℕ) (c t : List ℕ) → 16 + wordIn o c 8 ≤ length c → packet o p (c ++ t) ≡ good (held o c, 16 + wordIn o c 8)
+unfolding packet
+packet-front o p c t h =
+    let m : 16 + wordIn o c 8 - 16 ≡ wordIn o c 8 = omega arith in
+    let d : take (wordIn o c 8) (drop 16 (c ++ t)) ≡ take (wordIn o c 8) (drop 16 c) =
+    ap (take (wordIn o c 8)) (drop-append-le 16 c t (omega arith)) ∙ take-append-le (wordIn o c 8) (drop 16 c) t (omega (arith, length-drop 16 c)) in
+    rw (word-before o c t 0 (omega arith), word-before o c t 4 (omega arith), word-before o c t 8 (omega arith), word-before o c t 12 (omega arith), m, d)
+    (pass _ _ _ _ (le-ltb (length (c ++ t)) 16 (omega (arith, length-append c t)))
+    (pass _ _ _ _ (le-ltb (length (c ++ t)) (16 + wordIn o c 8) (omega (arith, length-append c t))) refl))
+
+packet-owns : (o : Order) (p : ℕ) (s : List ℕ) (k : Packet) (n : ℕ) → Any s → 1 ≤ length s → packet o p s ≡ good (k, n) → Stops.Owns (packet o) Any s k n
+unfolding packet
+packet-owns o p s k n f l e =
+    let (x, g) = passed _ _ _ _ e in
+    let (y, g) = passed _ _ _ _ g in
+    let size : 16 + wordIn o s 8 ≡ n = ap (λ (r : Packet × ℕ). r .1) (good-inj g) in
+    let long = ltb-false (length s) (16 + wordIn o s 8) y in
+    let m : length (take n s) ≡ n = length-take-le n s (omega arith) in
+    let w : wordIn o s 8 ≡ wordIn o (take n s) 8 = ap (λ (t : List ℕ). wordIn o t 8) (sym (take-append-drop n s)) ∙ word-before o (take n s) (drop n s) 8 (omega arith) in
+    let h : 16 + wordIn o (take n s) 8 ≤ length (take n s) = omega arith in
+    let same = sym (packet-front o p (take n s) (drop n s) h) ∙ ap (packet o p) (take-append-drop n s) ∙ e in
+    record { least = omega arith; most = omega arith; again = λ q t. packet-front o q (take n s) t h ∙ same; rest = tt; joined = λ t f. tt }
+
+-- a packet is refused where its record is cut
+cut-here : (o : Order) (p : ℕ) (s : List ℕ) {n q : ℕ} → packet o p s ≡ bad n q → (CAPTURE ≡ n) × (p ≡ q) × (length s < 16 + wordIn o s 8)
+unfolding packet
+cut-here o p s e =
+    ⊎-elim
+    (λ z. (z .1, z .2, omega (arith, ltb-true (length s) 16 (z .0))))
+    (λ e. ⊎-elim (λ z. (z .1, z .2, ltb-true (length s) (16 + wordIn o s 8) (z .0))) (λ e. absurd (good≢bad (sym e))) (refused-pass _ _ _ _ e))
+    (refused-pass _ _ _ _ e)
+
+cut-off : (o : Order) (p : ℕ) (s : List ℕ) {n q : ℕ} → Bytes s → items (packet o) 0 p s ≡ bad n q → Cut o p s n q
+cut-off o p s b e =
+    let w = Stops.stopped (packet o) Any tt (packet-owns o) p s tt e in
+    let v = all-back o 0 p (take (w .place) s) (bytes-take (w .place) s b) (w .passes) in
+    let h = cut-here o (p + w .place) (drop (w .place) s) (w .refused) in
+    record {
+      number = sym (h .0);
+      before = w .before;
+      fit = v .fit;
+      rest = drop (w .place) s;
+      is = ap (λ (t : List ℕ). t ++ drop (w .place) s) (v .is) ∙ take-append-drop (w .place) s;
+      some = omega (arith, length-drop (w .place) s, w .inside);
+      place = sym (h .1) ∙ ap (λ (k : ℕ). p + k) (sym (ap length (v .is) ∙ length-take-le (w .place) s (omega (arith, w .inside))));
+      short = h .2;
+    }
+
+-- and such records are refused there
+refused-behind : (o : Order) (p : ℕ) (rest : List ℕ) {ks : List Packet} → All Fits ks → 1 ≤ length rest → length rest < 16 + wordIn o rest 8
+    → items (packet o) 0 p (join (map (recordIn o) ks) ++ rest) ≡ bad CAPTURE (p + length (join (map (recordIn o) ks)))
+refused-behind o p rest {ks} f l h =
+    let t : List ℕ = join (map (recordIn o) ks) in
+    Stops.refused-behind (packet o) Any tt (packet-owns o) p (t ++ rest) (length t) (omega (arith, length-append t rest)) tt
+    (ap (items (packet o) 0 p) (take-append-seam t rest) ∙ records-again o p f)
+    (ap (packet o (p + length t)) (drop-append-seam t rest) ∙ packet-cut o (p + length t) rest h)
+
+-- ---- the file header, which is told by its own bytes
 
 half-before : (o : Order) (s t : List ℕ) (k : ℕ) → k + 1 < length s → halfIn o (s ++ t) k ≡ halfIn o s k
 unfolding halfIn
@@ -166,7 +178,7 @@ refused-why file n p b e =
     (λ z. subst (λ (k : ℕ). FileRefused file k p) (z .1) (subst (FileRefused file _) (z .2) (large (ltb-true _ _ (z .0)))))
     (λ z.
     let l = ltb-false _ _ (z .0) in
-    ⊎-elim (headless file l) (λ y. cut-file file b l (y .0) (order-good file (y .0) (y .1)) (cut-off (y .0) 0 24 (drop 24 file) (bytes-drop 24 file b) (y .2))) (refused-step _ _ (z .1)))
+    ⊎-elim (headless file l) (λ y. cut-file file b l (y .0) (order-good file (y .0) (y .1)) (cut-off (y .0) 24 (drop 24 file) (bytes-drop 24 file b) (y .2))) (refused-step _ _ (z .1)))
     (refused-at _ _ _ _ e)
 
 module _ (file : List ℕ) (p : ℕ) (ks : List Packet) (l : length file ≤ 65536) (w : FileOf (take p file) ks) (i : p < length file) (h : length file < p + 16 + wordIn (w .order) file (p + 8)) where

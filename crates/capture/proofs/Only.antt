@@ -112,11 +112,11 @@ read-back o p s k n b e =
     let (y, e) = passed _ _ _ _ e in
     subst (λ (r : Packet × ℕ). Back o s (r .0) (r .1)) (good-inj e) (back o s b (ltb-false _ _ y))
 
-record AllBack (o : Order) (s : List ℕ) (ks : List Packet) : Type 0 where
-  fit : All Fits ks
-  is : join (map (recordIn o) ks) ≡ s
+pub record AllBack (o : Order) (s : List ℕ) (ks : List Packet) : Type 0 where
+  pub fit : All Fits ks
+  pub is : join (map (recordIn o) ks) ≡ s
 
-all-back : (o : Order) (k p : ℕ) (s : List ℕ) {ks : List Packet} → Bytes s → items (packet o) k p s ≡ good ks → AllBack o (drop k s) ks
+pub all-back : (o : Order) (k p : ℕ) (s : List ℕ) {ks : List Packet} → Bytes s → items (packet o) k p s ≡ good ks → AllBack o (drop k s) ks
 unfolding items
 all-back o k p [] {ks} b e = let q : [] ≡ ks = cc in rw (← q, drop-nil) (record { fit = all-nil; is = refl })
 all-back o (suc k) p (x ∷ s) b e = all-back o k (suc p) s (bytes-tail b) e

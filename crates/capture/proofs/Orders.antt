@@ -47,14 +47,21 @@ module _ (k : Packet) (f : Fits k) where
       (pass _ _ _ _ (le-ltb (16 + length (k .bytes) + length t) 16 (omega arith))
       (pass _ _ _ _ (le-ltb (16 + length (k .bytes) + length t) (16 + length (k .bytes)) (omega arith)) refl))
 
+-- and so are whole records, one behind the other
+pub records-again : (o : Order) (p : ℕ) {ks : List Packet} → All Fits ks → items (packet o) 0 p (join (map (recordIn o) ks)) ≡ good ks
+records-again o p fs = items-join (packet o) (recordIn o) Fits (λ k f. omega (arith, record-length k o)) (λ k f p t. packet-again k f o p t) p fs
+
 -- a record that the end cuts, in its header or behind it, is refused where it stands
-pub cut-refused : (o : Order) (p : ℕ) (s : List ℕ) → 1 ≤ length s → length s < 16 + wordIn o s 8 → items (packet o) 0 p s ≡ bad CAPTURE p
+pub packet-cut : (o : Order) (p : ℕ) (s : List ℕ) → length s < 16 + wordIn o s 8 → packet o p s ≡ bad CAPTURE p
 unfolding packet
-cut-refused o p s l h = items-stop (packet o) p s l (go (ltb (length s) 16) refl)
+packet-cut o p s h = go (ltb (length s) 16) refl
   where
     go : (a : Bool) → ltb (length s) 16 ≡ a → packet o p s ≡ bad CAPTURE p
     go true e = halt _ _ _ _ e
     go false e = pass _ _ _ _ e (halt _ _ _ _ (lt-ltb (length s) (16 + wordIn o s 8) h))
+
+pub cut-refused : (o : Order) (p : ℕ) (s : List ℕ) → 1 ≤ length s → length s < 16 + wordIn o s 8 → items (packet o) 0 p s ≡ bad CAPTURE p
+cut-refused o p s l h = items-stop (packet o) p s l (packet-cut o p s h)
 
 pub word-behind : (o : Order) (n k : ℕ) (s : List ℕ) → wordIn o (drop n s) k ≡ wordIn o s (n + k)
 unfolding wordIn word
@@ -109,4 +116,4 @@ module _ (free : List ℕ) (twelve : length free ≡ 12) (ks : List Packet) wher
   packets-again o fs l =
       pass _ _ _ _ (le-ltb 65536 (length (fileIn o free ks)) l)
       (step _ _ (good-order o)
-      (rw (behind-header o) (items-join (packet o) (recordIn o) Fits (λ k f. omega (arith, record-length k o)) (λ k f p t. packet-again k f o p t) 24 fs)))
+      (rw (behind-header o) (records-again o 24 fs)))

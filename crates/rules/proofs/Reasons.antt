@@ -21,7 +21,7 @@ use Rattle.rules.specs.Sheet.{Row, row, sheet, sheetRows}
 use Rattle.rules.specs.Copy.{Entry, copyBytes, releasedOf, Answer, refusal, reported, measurement, roomFor, filled, answered, copy}
 use Rattle.rules.specs.Claims.{BadRecording, large, bad-message, BadSheet, SheetSize, bad-size, bad-row, ReleaseRefused, by-sheet, by-recording, DraftRefused, CleaningRefused, Unstored, itself, no-room}
 use Rattle.rules.proofs.Outcomes.{pass, halt, step, stop, neither, good≢bad, refused-at, refused-pass, refused-step, refused-only}
-use Rattle.rules.proofs.Stops.{Owns, Stopped, stopped, refused-behind}
+use Rattle.rules.proofs.Stops.{Any, Owns, Stopped, stopped, refused-behind}
 use Rattle.rules.proofs.Gives.{numbered-message, header-numbered, message-early}
 use Rattle.rules.proofs.Writer.{draft-refused, draft-numbered}
 use Rattle.rules.proofs.Nevers.{never-released}
@@ -29,9 +29,6 @@ use Rattle.rules.proofs.Alone as Alone
 use Rattle.rules.proofs.Joined.{row-placed, row-size, row-front}
 
 -- ---- a recording
-
-abbrev Any : List ℕ → Type 0
-Any s = Unit {0}
 
 message-owns : (p : ℕ) (s : List ℕ) (m : Message) (n : ℕ) → Any s → 1 ≤ length s → message p s ≡ good (m, n) → Owns message Any s m n
 message-owns p s m n f l e = let o = Alone.own p s m n e in record { least = omega (arith, o .least); most = o .most; again = o .again; rest = tt; joined = λ t f. tt }

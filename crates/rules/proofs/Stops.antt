@@ -11,6 +11,10 @@ use Rattle.rules.specs.Items.{items}
 use Rattle.rules.proofs.Outcomes.{stop-front, stepped, fronted, front-of, refused-step, refused-front, good≢bad}
 use Rattle.rules.proofs.Walk.{items-next, items-stop, items-behind}
 
+-- any bytes are fine
+abbrev pub Any : List ℕ → Type 0
+Any s = Unit {0}
+
 -- items that are read by their own bytes, wherever these stand and whatever follows them, from bytes that are fine
 module _ {A : Type 0} (read : ℕ → List ℕ → Outcome (A × ℕ)) (Fine : List ℕ → Type 0) where
   -- the item a is the first n bytes of s
