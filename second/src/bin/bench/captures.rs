@@ -63,7 +63,7 @@ fn time_read_capture(shape: Shape, size: usize, repetitions: usize) -> Line {
         assert!(capture::read_capture(black_box(&file), PORT, second_out).is_ok());
         black_box(&mut *second_out);
     };
-    let mut plain = || memcpy(&file, target);
+    let mut plain = || memcpy(&recording, target);
     let medians = medians(repetitions, [&mut export, &mut second, &mut plain]);
     assert!(outs[0] == outs[1], "the two recordings differ");
     Line { name: format!("read capture, {}", shape.name()), bytes: length, medians }

@@ -120,11 +120,12 @@ pub fn time_copy_of(name: String, recording: &[u8], sheet: &[u8], repetitions: u
     let length = recording.len();
     let mut outs = [vec![0; length], vec![0; length], vec![0; length]];
     let [export_out, second_out, target] = &mut outs;
+    let written = export_write(recording, sheet, export_out)[1] as usize;
     let mut export = || {
         export_write(recording, sheet, export_out);
     };
     let mut second = || second_write(recording, sheet, second_out);
-    let mut plain = || memcpy(recording, target);
+    let mut plain = || memcpy(&recording[..written], target);
     let medians = medians(repetitions, [&mut export, &mut second, &mut plain]);
     assert!(outs[0] == outs[1], "the two copies differ");
     Line { name, bytes: length, medians }

@@ -79,7 +79,7 @@ fn time_cut(shape: Shape, size: usize, repetitions: usize) -> Line {
     let mut second = || {
         black_box(answers::cut(black_box(&message), PAYLOAD, black_box(second_out)));
     };
-    let mut plain = || memcpy(&message, target);
+    let mut plain = || memcpy(&fragments, target);
     let medians = medians(repetitions, [&mut export, &mut second, &mut plain]);
     assert!(outs[0] == outs[1], "the two cut otherwise");
     Line { name: format!("cut, {}", shape.name()), bytes: message.len(), medians }
@@ -100,7 +100,8 @@ fn time_join(shape: Shape, size: usize, repetitions: usize) -> Line {
     let mut second = || {
         black_box(answers::join(black_box(&fragments), black_box(second_out)));
     };
-    let mut plain = || memcpy(&fragments, target);
+    let written = answer.values[1] as usize;
+    let mut plain = || memcpy(&fragments[..written], target);
     let medians = medians(repetitions, [&mut export, &mut second, &mut plain]);
     assert!(outs[0] == outs[1], "the two join otherwise");
     Line { name: format!("join, {}", shape.name()), bytes: fragments.len(), medians }

@@ -106,13 +106,14 @@ fn time_step(shape: Shape, kind: Kind, size: usize, repetitions: usize) -> Line 
 }
 
 /// Times a run of so many steps, each over 64 KiB of 16 ids, beside a plain copy
-/// of the bytes consumed.
+/// of the bytes written.
 fn time_run(shape: Shape, steps: usize, repetitions: usize) -> Line {
     let recording = recording(shape, Kind::ManyIds, 65_536);
     let sheet = sheet(Kind::ManyIds);
     let length = recording.len();
     let mut outs = [vec![0; length], vec![0; length], vec![0; length]];
     let [export_out, second_out, target] = &mut outs;
+    let written = export_write(&recording, &sheet, export_out)[1] as usize;
     let mut export = || {
         let mut state = [0; STATE_WORDS];
         for _ in 0..steps {
@@ -127,7 +128,7 @@ fn time_run(shape: Shape, steps: usize, repetitions: usize) -> Line {
     };
     let mut plain = || {
         for _ in 0..steps {
-            memcpy(&recording, target);
+            memcpy(&recording[..written], target);
         }
     };
     let medians = medians(repetitions, [&mut export, &mut second, &mut plain]);

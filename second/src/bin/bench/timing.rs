@@ -80,7 +80,7 @@ pub fn in_turn(repetitions: usize, ways: usize, mut sample: impl FnMut(usize) ->
         .collect()
 }
 
-/// The plain copy of the same bytes.
+/// The plain copy, of as many bytes as are written, or read where little or nothing is.
 pub fn memcpy(from: &[u8], to: &mut [u8]) {
     to[..from.len()].copy_from_slice(black_box(from));
     black_box(to);
