@@ -2,14 +2,15 @@
 use Prim.Native.Nat.{ℕ, _+_, _-_, _*_, _/_, _%_, _≤_, _<_}
 use mathlib.Core.Path.{_≡_, ap, sym, _∙_}
 use mathlib.Core.Bool.{Bool, true, false}
-use mathlib.Core.List.{List, [], _∷_}
+use mathlib.Core.List.{List}
 use native.Mathlib.Omega.{arith}
 use borrow.Author.Tests.{le-leb, lt-leb, eq-eqb, ne-eqb}
 use lib.Dec.{leb, eqb}
-use lib.ListN.{length, take, drop, getD}
-use Rattle.rules.specs.Bytes.{at, half, word, put32}
-use Rattle.rules.proofs.Numbers.{put32-word, bytes-nil, bytes-cons}
+use lib.ListN.{length, take, drop}
+use Rattle.rules.specs.Bytes.{at, half, word}
 use Rattle.rules.proofs.Loops.{rest}
+use Rattle.wire.specs.Order.{reversed}
+use Rattle.wire.proofs.Order.{turned-back}
 use Rattle.capture.specs.File.{Order, halfIn, wordIn, headerGood}
 use Rattle.capture.specs.Frame.{ipHeader, forUs, lengthsFit}
 use Rattle.capture.specs.Told.{orderBy, slotOf, datagramForUs}
@@ -30,26 +31,9 @@ module _ (s : List ℕ) (k : ℕ) (small : (i : ℕ) → at s i < 256) where
   unfolding halfIn half
   half-little h e o t = rw t (omega (arith, e, small k, small (k + 1)))
 
-  there : List ℕ
-  there = at s k ∷ at s (k + 1) ∷ at s (k + 2) ∷ at s (k + 3) ∷ []
-
-  stored : put32 (word s k) [] ≡ there
-  unfolding there word
-  stored = put32-word there [] (bytes-cons (small k) (bytes-cons (small (k + 1)) (bytes-cons (small (k + 2)) (bytes-cons (small (k + 3)) bytes-nil)))) (omega arith)
-
-  low : word s k < 4294967296
-  unfolding word
-  low = omega (arith, small k, small (k + 1), small (k + 2), small (k + 3))
-
-  pub word-little : (w : ℕ) → w ≡ word s k → (o : Bool) → o ≡ false → w % 256 * 16777216 + w / 256 % 256 * 65536 + w / 65536 % 256 * 256 + w / 16777216 ≡ wordIn (orderBy o) s k
-  unfolding wordIn there
-  word-little w e o t =
-      let top : word s k / 16777216 ≡ word s k / 16777216 % 256 = omega (arith, low) in
-      let a : word s k / 16777216 % 256 ≡ at s k = ap (λ (y : List ℕ). getD y 0 0) stored in
-      let b : word s k / 65536 % 256 ≡ at s (k + 1) = ap (λ (y : List ℕ). getD y 1 0) stored in
-      let c : word s k / 256 % 256 ≡ at s (k + 2) = ap (λ (y : List ℕ). getD y 2 0) stored in
-      let d : word s k % 256 ≡ at s (k + 3) = ap (λ (y : List ℕ). getD y 3 0) stored in
-      rw (e, t, top, a, b, c, d)
+  pub word-little : (w : ℕ) → w ≡ word s k → (o : Bool) → o ≡ false → reversed w ≡ wordIn (orderBy o) s k
+  unfolding wordIn
+  word-little w e o t = rw t (turned-back s k small e)
 
 -- ---- the file header
 

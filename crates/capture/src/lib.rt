@@ -36,7 +36,7 @@ fn word_in(big: bool, s: &[u8], k: usize) -> u32
     if big {
         return w;
     }
-    w % 256 * 16777216 + w / 256 % 256 * 65536 + w / 65536 % 256 * 256 + w / 16777216
+    wire::reverse(w)
 }
 
 // Whether s begins with a good file header in a byte order.
