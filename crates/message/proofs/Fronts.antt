@@ -1,8 +1,8 @@
 -- A message checked but for its packages, and what follows of the message once they are walked over.
 use Prim.Native.Nat.{ℕ, _+_, _-_, _*_, _≤_, _<_}
-use mathlib.Core.Path.{_≡_, refl, sym, ap, _∙_}
+use mathlib.Core.Path.{_≡_, refl, sym, ap, subst, _∙_}
 use mathlib.Core.Logic.{⊎-elim}
-use mathlib.Core.Bool.{true, false}
+use mathlib.Core.Bool.{Bool, true, false}
 use mathlib.Core.List.{List, []}
 use native.Mathlib.Nat.{add-zero}
 use native.Mathlib.Omega.{arith}
@@ -11,10 +11,10 @@ use lib.ListN.{length, take, drop, length-take, length-drop}
 use lib.Seq.{drop-drop, length-take-le}
 use Rattle.rules.specs.Outcome.{Outcome, good, bad, SHORT, LARGE, PACKAGE, COUNT}
 use Rattle.rules.specs.Bytes.{part}
-use Rattle.rules.specs.Options.{countSaid, differs}
+use Rattle.rules.specs.Options.{optionRunFrom, countSaid, differs}
 use Rattle.rules.specs.Packages.{cut}
-use Rattle.rules.specs.Message.{Head, head, payloadStart, payload, optionRunLength, checksEightAndNine, checksOneToNine, checksOneToTen, everyCheck}
-use Rattle.rules.specs.Reading.{messageSpot, messageAt}
+use Rattle.rules.specs.Message.{Head, head, payloadStart, payload, checksOneToSix, optionRunLength, checksEightAndNine, checksOneToNine, checksOneToTen, everyCheck}
+use Rattle.rules.specs.Reading.{MessageSpot, messageSpot, messageAt}
 use Rattle.rules.proofs.Outcomes.{pass, halt, after, step, stop, stop-before, came-after, passed, stepped, good-inj, refused-at, refused-only}
 use Rattle.rules.proofs.Cut as Cut
 use Rattle.rules.proofs.Loops.{rest}
@@ -23,9 +23,11 @@ use Rattle.rules.proofs.Passed.{Sound, sound}
 use Rattle.rules.proofs.Run.{run-ends}
 use Rattle.refusal.specs.declared.Refusal.{Refusal}
 use Rattle.refusal.specs.declared.Why.the-variants as why
-use Rattle.message.proofs.Headers.{short-header, unread, headed, header-sound}
-use Rattle.message.proofs.Messages.{by-bytes}
-use Rattle.message.specs.Answers.{headOfHeader, toldHeader, headerHere, eightAndNine, toldMessage, frontHere, frontAt, payloadFrom, nextFrom}
+use Rattle.message.proofs.Checks.{no-numbers}
+use Rattle.message.proofs.Headers.{run-behind, run-inside, header-sound, Headed, short-run, same-checks, headed}
+use Rattle.message.proofs.Messages.{by-bytes, framing, here}
+use Rattle.message.specs.Answers.{testedIn, headOf, noHeader, headerOf, eightAndNine, headOfHeader, toldHeader, Opened, spotBehindRun, toldMessage, checkedRun, frontRun, headerIn, frontAt, payloadFrom, nextFrom}
+use Rattle.message.specs.declared.Tested.{Tested}
 use Rattle.message.specs.declared.Header.{Header}
 use Rattle.message.specs.declared.HeaderRead.the-variants as headerRead
 use Rattle.message.specs.declared.Message.{Message}
@@ -33,42 +35,145 @@ use Rattle.message.specs.declared.MessageRead.the-variants as messageRea
 
 -- ---- checks 1 to 9 of the message at the start of s
 module _ (p : ℕ) (s : List ℕ) where
-  pub not-seven : {n q : ℕ} → bad n q ≡ headerHere p s → bad n q ≡ frontHere p s
-  unfolding frontHere checksOneToNine
-  not-seven e = sym (stop _ _ (stop _ _ (unread p s e)))
+  not-seven : {n q : ℕ} → bad n q ≡ optionRunLength p s (head s) → bad n q ≡ checksOneToNine p s (head s)
+  unfolding checksOneToNine
+  not-seven e = sym (stop _ _ (sym e))
 
-  module _ (h : Header) (e : toldHeader (headerRead.Header h) ≡ headerHere p s) where
+  -- h is the header, and its option run has n bytes
+  module _ (h : Header) (n : ℕ) (eh : h ≡ headerOf s n) (e : good n ≡ optionRunLength p s (head s)) where
     gate : eightAndNine p (headOfHeader h) ≡ checksEightAndNine p s (head s)
     gate =
-        let k = headed p s h e in
-        let d = header-sound p s (head s) (k .run) in
-        ap (eightAndNine p) (k .same) ∙ by-bytes p (head s) s (d .most)
+        let d = header-sound p s (head s) (sym e) in
+        ap (eightAndNine p) (headed p s n h e eh .same) ∙ by-bytes p (head s) s (d .most)
 
-    pub not-nine : {m q : ℕ} → bad m q ≡ eightAndNine p (headOfHeader h) → bad m q ≡ frontHere p s
-    unfolding frontHere checksOneToNine
-    not-nine g = sym (stop _ _ (step _ _ (headed p s h e .run) (stop-before _ _ (sym (g ∙ gate)))))
+    not-nine : {m q : ℕ} → bad m q ≡ eightAndNine p (headOfHeader h) → bad m q ≡ checksOneToNine p s (head s)
+    unfolding checksOneToNine
+    not-nine g = sym (step _ _ (sym e) (stop-before _ _ (sym (g ∙ gate))))
 
-    pub fronting : good tt ≡ eightAndNine p (headOfHeader h) → toldHeader (headerRead.Header h) ≡ frontHere p s
-    unfolding frontHere checksOneToNine
-    fronting g =
-        let k = headed p s h e in
-        let f : good (head s, h .run) ≡ frontHere p s = sym (step _ _ (step _ _ (k .run) (after _ _ (sym (g ∙ gate)) refl)) refl) in
-        ap (λ (z : Head). good (z, h .run)) (k .same) ∙ f
+    nine-passed : good tt ≡ eightAndNine p (headOfHeader h) → good n ≡ checksOneToNine p s (head s)
+    unfolding checksOneToNine
+    nine-passed g = sym (step _ _ (sym e) (after _ _ (sym (g ∙ gate)) refl))
+
+  -- a message without options: its run is empty
+  pub plain : (t : Tested) (h : Header) → t ≡ testedIn (head s) → t .words ≡ 0 → good tt ≡ checksOneToSix p s (headOf t) → h ≡ headerOf s 0 → good tt ≡ eightAndNine p (headOfHeader h) → checksOneToNine p s (head s) ≡ good 0
+  unfolding optionRunFrom
+  plain t h et w six eh nine = sym (nine-passed h 0 eh (run-behind p s (headOf t) 24 (omega (arith, w)) six refl ∙ same-checks p s t et) nine)
 
 -- ---- the message at a place of a recording
 module _ (s : List ℕ) (p : ℕ) where
-  pub large : 65536 < length s → bad LARGE 65536 ≡ frontAt s p
-  unfolding frontAt
-  large a = sym (halt _ _ _ _ (lt-ltb 65536 (length s) a))
+  -- all of it from the place on, as it is lent
+  abbrev from : List ℕ
+  from = take (length s - p) (drop p s)
+
+  pub large : (nine : Bool) → 65536 < length s → bad LARGE 65536 ≡ checkedRun s p nine
+  unfolding checkedRun
+  large nine a = sym (halt _ _ _ _ (lt-ltb 65536 (length s) a))
 
   module _ (a : length s ≤ 65536) where
-    pub here : {o : Outcome (Head × ℕ)} → o ≡ frontHere p (take (length s - p) (drop p s)) → o ≡ frontAt s p
-    unfolding frontAt frontHere
-    here e = sym (pass _ _ _ _ (le-ltb 65536 (length s) a) (sym (rw rest at e)))
+    seven-at : {o : Outcome ℕ} → o ≡ optionRunLength p (drop p s) (head (drop p s)) → o ≡ checkedRun s p false
+    unfolding checkedRun
+    seven-at e = sym (pass _ _ _ _ (le-ltb 65536 (length s) a) (sym e))
 
-    pub behind : length s < p → bad SHORT p ≡ frontAt s p
-    unfolding frontAt frontHere
-    behind b = sym (pass _ _ _ _ (le-ltb 65536 (length s) a) (sym (not-seven p (drop p s) (short-header p (drop p s) (omega (arith, length-drop p s))))))
+    nine-at : {o : Outcome ℕ} → o ≡ checksOneToNine p (drop p s) (head (drop p s)) → o ≡ checkedRun s p true
+    unfolding checkedRun
+    nine-at e = sym (pass _ _ _ _ (le-ltb 65536 (length s) a) (sym e))
+
+    pub behind : (nine : Bool) → length s < p → bad SHORT p ≡ checkedRun s p nine
+    behind false b = seven-at (short-run p (drop p s) (omega (arith, length-drop p s)))
+    behind true b = nine-at (not-seven p (drop p s) (short-run p (drop p s) (omega (arith, length-drop p s))))
+
+    pub seven-there : (nine : Bool) → nine ≡ false → {o : Outcome ℕ} → o ≡ optionRunLength p from (head from) → o ≡ checkedRun s p nine
+    seven-there nine t e = rw t (seven-at (rw rest at e))
+
+    module _ (nine : Bool) (t : nine ≡ true) where
+      pub not-seven-there : {n q : ℕ} → bad n q ≡ optionRunLength p from (head from) → bad n q ≡ checkedRun s p nine
+      not-seven-there e = rw t (nine-at (not-seven p (drop p s) (rw rest at e)))
+
+      module _ (h : Header) (n : ℕ) (eh : h ≡ headerOf from n) (e : good n ≡ optionRunLength p from (head from)) where
+        pub not-nine-there : {m q : ℕ} → bad m q ≡ eightAndNine p (headOfHeader h) → bad m q ≡ checkedRun s p nine
+        not-nine-there g = rw t (nine-at (rw rest at (not-nine p from h n eh e g)))
+
+        pub nine-there : good tt ≡ eightAndNine p (headOfHeader h) → good n ≡ checkedRun s p nine
+        nine-there g = rw t (nine-at (rw rest at (nine-passed p from h n eh e g)))
+
+    pub plain-there : checksOneToNine p from (head from) ≡ good 0 → frontRun s p ≡ good 0
+    unfolding frontRun
+    plain-there e = pass _ _ _ _ (le-ltb 65536 (length s) a) (rw rest at e)
+
+  pub header-behind : (n : ℕ) → length s < p → noHeader ≡ headerIn s p n
+  unfolding headerIn
+  header-behind n a = no-numbers (drop p s) n (omega (arith, length-drop p s))
+
+  pub header-there : (n : ℕ) → headerOf from n ≡ headerIn s p n
+  unfolding headerIn
+  header-there n = rw rest
+
+  pub front-is : checkedRun s p true ≡ frontRun s p
+  unfolding checkedRun frontRun
+  front-is = refl
+
+  pub front-bad : {n q : ℕ} → bad n q ≡ frontRun s p → bad n q ≡ frontAt s p
+  unfolding frontRun frontAt
+  front-bad e =
+      sym
+      (⊎-elim (λ z. rw (← z .1, ← z .2) (halt _ _ _ _ (z .0)))
+      (λ z. pass _ _ _ _ (z .0) (stop _ _ (z .1)))
+      (refused-at _ _ _ _ (sym e)))
+
+  -- where it passes, and h is its header
+  module _ (n : ℕ) (h : Header) (e : good n ≡ frontRun s p) (eh : h ≡ headerIn s p n) where
+    nine-is : checksOneToNine p (drop p s) (head (drop p s)) ≡ good n
+    unfolding frontRun
+    nine-is = passed _ _ _ _ (sym e) .1
+
+    seven-is : good n ≡ optionRunLength p (drop p s) (head (drop p s))
+    unfolding checksOneToNine
+    seven-is =
+        let (m, o, z) = stepped _ _ nine-is in
+        let (c, d) = came-after _ _ z in
+        sym (o ∙ d)
+
+    there : h ≡ headerOf (drop p s) n
+    unfolding headerIn
+    there = eh
+
+    its : Headed p (drop p s) h
+    its = headed p (drop p s) n h seven-is there
+
+    pub front-good : toldHeader (headerRead.Header h) ≡ frontAt s p
+    unfolding frontRun frontAt
+    front-good =
+        let (a, g) = passed _ _ _ _ (sym e) in
+        let r : h .run ≡ n = good-inj (sym (its .run) ∙ sym seven-is) in
+        ap (λ (z : Head). good (z, h .run)) (its .same) ∙ ap (λ (m : ℕ). good (head (drop p s), m)) r ∙ sym (pass _ _ _ _ a (step _ _ g refl))
+
+    -- what is left to check stands in the recording
+    pub record Entered : Type 0 where
+      pub inside : p ≤ length s
+      pub opened : Opened from h p
+      pub told : {o : Outcome MessageSpot} → o ≡ spotBehindRun p from (headOfHeader h) (h .run) → o ≡ messageAt s p
+
+    pub entered : Entered
+    unfolding frontRun checksOneToNine
+    entered =
+        let (a, g) = passed _ _ _ _ (sym e) in
+        let (m, o, z) = stepped _ _ g in
+        let (c, d) = came-after _ _ z in
+        let small = ltb-false 65536 (length s) a in
+        let w = header-sound p (drop p s) (head (drop p s)) (sym seven-is) in
+        let sound : Sound (drop p s) (headOfHeader h) = subst (λ (x : Head). Sound (drop p s) x) (sym (its .same)) w in
+        let long = length-drop p s in
+        record {
+          inside = omega (arith, w .long, long);
+          opened = rw rest (record {
+            nine = sym (gate p (drop p s) h n there seven-is ∙ c);
+            least = sound .least;
+            most = sound .most;
+            run = run-inside p (drop p s) (head (drop p s)) (sym (its .run));
+            place = omega (arith, small, w .long, long);
+          });
+          told = λ f. here s p small (framing p (drop p s) h its (rw rest at f));
+        }
 
 -- ---- a cut at another place
 

@@ -1,20 +1,21 @@
 -- Checks 1 to 7, a header alone, and where its option run lies.
 use Prim.Native.Nat.{ℕ, _+_, _-_, _*_, _≤_, _<_}
-use mathlib.Core.Path.{_≡_, refl, sym, ap, ap₂, subst, _∙_}
+use mathlib.Core.Path.{_≡_, refl, sym, ap, ap₂, _∙_}
+use mathlib.Core.Logic.{⊎-elim}
+use mathlib.Core.Bool.{false}
 use mathlib.Core.List.{List, []}
 use native.Mathlib.Omega.{arith}
-use borrow.Author.Tests.{lt-ltb, le-ltb}
 use lib.ListN.{length, take, drop, length-take, length-drop}
-use Rattle.rules.specs.Outcome.{Outcome, good, bad, SHORT, LARGE}
+use Rattle.rules.specs.Outcome.{Outcome, good, bad, SHORT}
 use Rattle.rules.specs.Bytes.{part}
 use Rattle.rules.specs.Options.{optionRunFrom}
 use Rattle.rules.specs.Message.{Head, head, payloadStart, checksOneToSix, optionRunLength}
 use Rattle.rules.specs.Reading.{header}
-use Rattle.rules.proofs.Outcomes.{pass, halt, step, stop, after, stop-before, came-after, passed, stepped, good-inj, refused-only}
+use Rattle.rules.proofs.Outcomes.{pass, halt, step, stop, after, stop-before, came-after, passed, stepped, good-inj, refused-at}
 use Rattle.rules.proofs.Run.{run-ends}
 use Rattle.rules.proofs.Passed.{Sound, sound}
-use Rattle.message.proofs.Checks.{short}
-use Rattle.message.specs.Answers.{testedIn, headOf, headerOf, headOfHeader, headerHere, Opened, toldHeader}
+use Rattle.message.proofs.Checks.{short, full-header}
+use Rattle.message.specs.Answers.{testedIn, headOf, withRun, headerOf, headOfHeader, checkedRun, toldHeader}
 use Rattle.rules.specs.Reading.{optionRun, optionStart}
 use Rattle.message.specs.declared.Tested.{Tested}
 use Rattle.message.specs.declared.Header.{Header}
@@ -47,66 +48,47 @@ module _ (p : ℕ) (s : List ℕ) (h : Head) where
   header-sound e = sound p s h (came-after _ _ e .0)
 
 -- the numbers of a header that passes
-whole : (k : Head) (n : ℕ) → k .version ≡ 1 → k .kind ≡ 0 → headOfHeader (headerOf (testedIn k) k n) ≡ k
+whole : (k : Head) (n : ℕ) → k .version ≡ 1 → k .kind ≡ 0 → headOfHeader (withRun k n) ≡ k
 whole k n e f =
     ap₂ (λ (v t : ℕ). record { version = v; words = k .words; kind = t; flags = k .flags; id = k .id; sequence = k .sequence; size = k .size; seconds = k .seconds; nanos = k .nanos }) (sym e) (sym f)
 
--- the header of the message at the start of s
-module _ (p : ℕ) (s : List ℕ) where
-  pub short-header : length s < 24 → bad SHORT p ≡ headerHere p s
-  unfolding headerHere optionRunLength
-  short-header a = sym (stop _ _ (stop-before _ _ (sym (short p s (head s) a))))
-
-  module _ (h : Tested) (eh : h ≡ testedIn (head s)) where
-    -- checks 1 to 7 look at no other number
-    same-checks : optionRunLength p s (headOf h) ≡ optionRunLength p s (head s)
-    unfolding optionRunLength checksOneToSix
-    same-checks = ap (λ (x : Tested). optionRunLength p s (headOf x)) eh
-
-    pub not-read : {n q : ℕ} → bad n q ≡ optionRunLength p s (headOf h) → bad n q ≡ headerHere p s
-    unfolding headerHere
-    not-read e = sym (stop _ _ (sym (e ∙ same-checks)))
-
-    pub read : (n : ℕ) (r : Header) → good n ≡ optionRunLength p s (headOf h) → r ≡ headerOf h (head s) n → toldHeader (headerRead.Header r) ≡ headerHere p s
-    unfolding headerHere
-    read n r e er =
-        let o : optionRunLength p s (head s) ≡ good n = sym (e ∙ same-checks) in
-        let d = header-sound p s (head s) o in
-        ap (λ (x : Header). toldHeader (headerRead.Header x)) (er ∙ ap (λ (x : Tested). headerOf x (head s) n) eh) ∙ ap (λ (k : Head). good (k, n)) (whole (head s) n (d .version) (d .kind)) ∙ sym (step _ _ o refl)
-
-  -- where it is refused, checks 1 to 7 refuse it
-  pub unread : {n q : ℕ} → bad n q ≡ headerHere p s → optionRunLength p s (head s) ≡ bad n q
-  unfolding headerHere
-  unread e = refused-only _ _ (sym e)
-
--- where it is read, these are its numbers, and checks 1 to 7 pass
+-- where checks 1 to 7 of the message at the start of s pass, these are its header's numbers
 pub record Headed (p : ℕ) (s : List ℕ) (h : Header) : Type 0 where
   pub same : headOfHeader h ≡ head s
   pub run : optionRunLength p s (head s) ≡ good (h .run)
 
-pub headed : (p : ℕ) (s : List ℕ) (h : Header) → toldHeader (headerRead.Header h) ≡ headerHere p s → Headed p s h
-unfolding headerHere
-headed p s h e =
-    let (n, q, f) = stepped _ _ (sym e) in
-    let z = good-inj f in
-    let m : n ≡ h .run = ap (λ (r : Head × ℕ). r .1) z in
-    record { same = ap (λ (r : Head × ℕ). r .0) (sym z); run = rw (← m) q }
+module _ (p : ℕ) (s : List ℕ) where
+  pub short-run : length s < 24 → bad SHORT p ≡ optionRunLength p s (head s)
+  unfolding optionRunLength
+  short-run a = sym (stop-before _ _ (sym (short p s (head s) a)))
 
-pub opened : (p : ℕ) (s : List ℕ) (h : Header) → p + length s < 4294967296 → toldHeader (headerRead.Header h) ≡ headerHere p s → Opened s h p
-opened p s h l e =
-    let k = headed p s h e in
-    let d : Sound s (headOfHeader h) = subst (λ (x : Head). Sound s x) (sym (k .same)) (header-sound p s (head s) (k .run)) in
-    record { least = d .least; most = d .most; run = run-inside p s (head s) (sym (k .run)); place = l }
+  -- checks 1 to 7 look at no other number than those that are tested
+  pub same-checks : (h : Tested) → h ≡ testedIn (head s) → optionRunLength p s (headOf h) ≡ optionRunLength p s (head s)
+  unfolding optionRunLength checksOneToSix
+  same-checks h eh = ap (λ (x : Tested). optionRunLength p s (headOf x)) eh
 
--- a header alone
+  pub headed : (n : ℕ) (h : Header) → good n ≡ optionRunLength p s (head s) → h ≡ headerOf s n → Headed p s h
+  headed n h e eh =
+      let d = header-sound p s (head s) (sym e) in
+      let w : h ≡ withRun (head s) n = eh ∙ full-header s n (d .long) in
+      record { same = ap headOfHeader w ∙ whole (head s) n (d .version) (d .kind); run = sym e ∙ ap (λ (x : Header). good (x .run)) (sym w) }
+
+-- a header alone: 12 before checks 1 to 7
 module _ (s : List ℕ) where
-  pub large : 65536 < length s → bad LARGE 65536 ≡ header s
-  unfolding header
-  large a = sym (halt _ _ _ _ (lt-ltb 65536 (length s) a))
+  pub not-alone : {n q : ℕ} → bad n q ≡ checkedRun s 0 false → bad n q ≡ header s
+  unfolding header checkedRun
+  not-alone e =
+      sym
+      (⊎-elim (λ z. rw (← z .1, ← z .2) (halt _ _ _ _ (z .0)))
+      (λ z. pass _ _ _ _ (z .0) (stop _ _ (z .1)))
+      (refused-at _ _ _ _ (sym e)))
 
-  pub alone : {o : Outcome (Head × ℕ)} → length s ≤ 65536 → o ≡ headerHere 0 s → o ≡ header s
-  unfolding header headerHere
-  alone a e = sym (pass _ _ _ _ (le-ltb 65536 (length s) a) (sym e))
+  pub alone : (n : ℕ) (h : Header) → good n ≡ checkedRun s 0 false → h ≡ headerOf s n → toldHeader (headerRead.Header h) ≡ header s
+  unfolding header checkedRun
+  alone n h e eh =
+      let (a, g) = passed _ _ _ _ (sym e) in
+      let k = headed 0 s n h (sym g) eh in
+      ap (λ (z : Head). good (z, h .run)) (k .same) ∙ sym (pass _ _ _ _ a (step _ _ (k .run) refl))
 
 -- where the option run of a header that was read lies
 pub record Lies (s : List ℕ) (n : ℕ) : Type 0 where

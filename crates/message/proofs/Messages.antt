@@ -8,24 +8,22 @@ use borrow.Author.Tests.{lt-ltb, le-ltb, ltb-true, ltb-false}
 use lib.Dec.{ltb}
 use lib.ListN.{length, take, drop, length-drop, length-append, length-map}
 use lib.Seq.{drop-cons, length-take-le}
-use Rattle.rules.specs.Outcome.{Outcome, good, bad, refuse, _>>_, _>>=_, SHORT, LARGE, FRAGMENT, STANDARD, COUNT}
+use Rattle.rules.specs.Outcome.{Outcome, good, bad, refuse, _>>_, _>>=_, LARGE, FRAGMENT, STANDARD, COUNT}
 use Rattle.rules.specs.Bytes.{at, part, oneIfAny}
 use Rattle.rules.specs.Items.{Fills, none, more}
 use Rattle.rules.specs.Options.{countSaid, differs}
 use Rattle.rules.specs.Packages.{cut, packageOf, Piece}
-use Rattle.rules.specs.Message.{Head, head, payloadStart, payload, checksOneToSix, optionRunLength, checksEightAndNine, checksOneToNine, checksOneToTen, everyCheck, Message, recordOf, message, recording}
+use Rattle.rules.specs.Message.{Head, head, payloadStart, payload, checksEightAndNine, checksOneToNine, checksOneToTen, everyCheck, Message, recordOf, message, recording}
 use Rattle.rules.specs.Reading.{packagesOf, checkedRecording}
-use Rattle.rules.proofs.Outcomes.{pass, halt, pass-last, halt-last, after, step, stop, stepped, stop-before, good-inj, refused-only}
+use Rattle.rules.proofs.Outcomes.{pass, halt, pass-last, halt-last, after, step, stop, stepped, good-inj, refused-only}
 use Rattle.rules.proofs.Passed.{passes}
-use Rattle.rules.proofs.Loops.{rest, Doing, doing-start, doing-next, doing-end, doing-bad}
+use Rattle.rules.proofs.Loops.{Doing, doing-start, doing-next, doing-end, doing-bad}
 use Rattle.rules.proofs.Cut as Cut
 use Rattle.message.proofs.Tests.{is, isnt}
-use Rattle.message.proofs.Checks.{short}
-use Rattle.message.proofs.Headers.{unread, headed}
-use Rattle.message.specs.Answers.{headOfHeader, toldHeader, headerHere, oneIfBytes, eightAndNine, Opened, cutCount, spotBehindRun, messageHere}
+use Rattle.message.proofs.Headers.{Headed}
+use Rattle.message.specs.Answers.{headOfHeader, oneIfBytes, eightAndNine, Opened, cutCount, spotBehindRun, messageHere}
 use Rattle.rules.specs.Reading.{MessageSpot, messageSpot, messageAt}
 use Rattle.message.specs.declared.Header.{Header}
-use Rattle.message.specs.declared.HeaderRead.the-variants as headerRead
 
 -- a part is empty or not by its ends
 any-part : (s : List ℕ) (a e : ℕ) → e ≤ length s → oneIfAny (part a e s) ≡ oneIfBytes a e
@@ -76,13 +74,9 @@ module _ (p : ℕ) (s : List ℕ) (r : Header) (o : Opened s r p) where
   abbrev n : ℕ
   n = r .run
 
-  pub unfit : {m q : ℕ} → bad m q ≡ eightAndNine p h → bad m q ≡ spotBehindRun p s h n
-  unfolding spotBehindRun
-  unfit e = sym (stop-before _ _ (sym (e ∙ by-bytes p h s (o .most))))
-
-  module _ (c : good tt ≡ eightAndNine p h) (f z : ℕ) (ef : f ≡ 24 + 4 * h .words) (ez : z ≡ h .size) where
+  module _ (f z : ℕ) (ef : f ≡ 24 + 4 * h .words) (ez : z ≡ h .size) where
     fit : checksEightAndNine p s h ≡ good tt
-    fit = sym (c ∙ by-bytes p h s (o .most))
+    fit = sym (o .nine ∙ by-bytes p h s (o .most))
 
     pub no-cut : {m q : ℕ} → bad m q ≡ cutCount (p + f) (take (z - f) (drop f s)) → bad m q ≡ spotBehindRun p s h n
     unfolding spotBehindRun cutCount
@@ -128,34 +122,24 @@ module _ (p : ℕ) (s : List ℕ) (h : Head) where
   regroup (good tt) (bad x y) n = refl
   regroup (bad x y) o n = refl
 
-module _ (p : ℕ) (s : List ℕ) where
-  pub not-open : {n q : ℕ} → bad n q ≡ headerHere p s → bad n q ≡ messageHere p s
-  unfolding messageHere everyCheck checksOneToTen checksOneToNine
-  not-open e = sym (stop _ _ (stop _ _ (stop _ _ (stop _ _ (unread p s e)))))
-
-  pub framing : (h : Header) {o : Outcome MessageSpot} → toldHeader (headerRead.Header h) ≡ headerHere p s → o ≡ spotBehindRun p s (headOfHeader h) (h .run) → o ≡ messageHere p s
-  unfolding messageHere everyCheck checksOneToTen checksOneToNine spotBehindRun
-  framing h e f =
-      let k = headed p s h e in
-      let g : spotBehindRun p s (headOfHeader h) (h .run) ≡ spotBehindRun p s (head s) (h .run) = ap (λ (x : Head). spotBehindRun p s x (h .run)) (k .same) in
-      f ∙ g ∙ sym (ap (λ (o : Outcome ℕ). spotOf p s (head s) o (cut (p + payloadStart (head s)) (payload s (head s)))) (step _ _ (k .run) refl) ∙ regroup p s (head s) _ _ _)
+pub framing : (p : ℕ) (s : List ℕ) (h : Header) {o : Outcome MessageSpot} → Headed p s h → o ≡ spotBehindRun p s (headOfHeader h) (h .run) → o ≡ messageHere p s
+unfolding messageHere everyCheck checksOneToTen checksOneToNine spotBehindRun
+framing p s h k f =
+    let g : spotBehindRun p s (headOfHeader h) (h .run) ≡ spotBehindRun p s (head s) (h .run) = ap (λ (x : Head). spotBehindRun p s x (h .run)) (k .same) in
+    f ∙ g ∙ sym (ap (λ (o : Outcome ℕ). spotOf p s (head s) o (cut (p + payloadStart (head s)) (payload s (head s)))) (step _ _ (k .run) refl) ∙ regroup p s (head s) _ _ _)
 
 -- ---- the message at a place of a recording
-module _ (s : List ℕ) (p : ℕ) where
-  pub large : 65536 < length s → bad LARGE 65536 ≡ messageAt s p
-  unfolding messageAt
-  large a = sym (halt _ _ _ _ (lt-ltb 65536 (length s) a))
 
-  module _ (a : length s ≤ 65536) where
-    pub few : length s < p + 24 → bad SHORT p ≡ messageAt s p
-    unfolding messageAt everyCheck checksOneToTen checksOneToNine optionRunLength
-    few b =
-        let e : checksOneToSix p (drop p s) (head (drop p s)) ≡ bad SHORT p = sym (short p (drop p s) (head (drop p s)) (omega (arith, length-drop p s))) in
-        sym (pass _ _ _ _ (le-ltb 65536 (length s) a) (stop _ _ (stop _ _ (stop _ _ (stop _ _ (stop-before _ _ e))))))
+pub here : (s : List ℕ) (p : ℕ) → length s ≤ 65536 → {o : Outcome MessageSpot} → o ≡ messageHere p (drop p s) → o ≡ messageAt s p
+unfolding messageAt messageHere
+here s p a e = sym (pass _ _ _ _ (le-ltb 65536 (length s) a) (sym e))
 
-    pub here : {o : Outcome MessageSpot} → o ≡ messageHere p (take (length s - p) (drop p s)) → o ≡ messageAt s p
-    unfolding messageAt messageHere
-    here e = sym (pass _ _ _ _ (le-ltb 65536 (length s) a) (sym (rw rest at e)))
+-- and what it says of the message from there on
+pub there : (s : List ℕ) (p : ℕ) → length s ≤ 65536 → {o : Outcome MessageSpot} → o ≡ messageAt s p → o ≡ messageHere p (drop p s)
+unfolding messageAt messageHere
+there s p a e =
+    let z : messageAt s p ≡ messageHere p (drop p s) = pass _ _ _ _ (le-ltb 65536 (length s) a) refl in
+    e ∙ z
 
 -- ---- the loop over a recording
 
@@ -233,13 +217,13 @@ module _ (s : List ℕ) (i m n : ℕ) (c : Checking s i m n) where
         };
       }
 
-  pub next : (d : MessageSpot) → i < length s → good d ≡ messageHere i (take (length s - i) (drop i s)) → Onward s i m n d
-  next d l e = behind-one d l (reading i (drop i s) d (sym (rw rest at e)))
-
   module _ (a : length s ≤ 65536) where
-    pub stopped : {k q : ℕ} → i < length s → bad k q ≡ messageHere i (take (length s - i) (drop i s)) → bad k q ≡ checkedRecording s
+    pub next : (d : MessageSpot) → i < length s → good d ≡ messageAt s i → Onward s i m n d
+    next d l e = behind-one d l (reading i (drop i s) d (sym (there s i a e)))
+
+    pub stopped : {k q : ℕ} → i < length s → bad k q ≡ messageAt s i → bad k q ≡ checkedRecording s
     unfolding checkedRecording recording
-    stopped l e = sym (stop _ _ (pass _ _ _ _ (le-ltb 65536 (length s) a) (doing-bad message s (c .done) i (c .doing) l (no-record i (drop i s) (sym (rw rest at e))))))
+    stopped l e = sym (stop _ _ (pass _ _ _ _ (le-ltb 65536 (length s) a) (doing-bad message s (c .done) i (c .doing) l (no-record i (drop i s) (sym (there s i a e))))))
 
     pub ended : length s ≤ i → good (m, n) ≡ checkedRecording s
     unfolding checkedRecording recording

@@ -58,18 +58,25 @@ headOf h = record {
   nanos = h .nanos;
 }
 
--- these numbers, and the others of a header k
-abbrev pub headerOf : Tested → Head → ℕ → Header
-headerOf h k n = record {
-  words = h .words;
+-- the header with these numbers and an option run of n bytes; and one of zeros
+abbrev pub withRun : Head → ℕ → Header
+withRun k n = record {
+  words = k .words;
   flags = k .flags;
   id = record { 0 = k .id };
   sequence = k .sequence;
-  length = h .size;
+  length = k .size;
   seconds = k .seconds;
-  nanos = h .nanos;
+  nanos = k .nanos;
   run = n;
 }
+
+abbrev pub noHeader : Header
+noHeader = record { words = 0; flags = 0; id = record { 0 = 0 }; sequence = 0; length = 0; seconds = 0; nanos = 0; run = 0 }
+
+-- the header at the start of s, with an option run of n bytes; zeros where s has fewer than 24 bytes
+unfoldable pub headerOf : List ℕ → ℕ → Header
+headerOf s n = elim (ltb (length s) headerBytes) [ true ↦ noHeader | false ↦ withRun (head s) n ]
 
 abbrev pub toldGate : Gate → Outcome (Unit {0})
 toldGate Open = good tt
@@ -154,14 +161,9 @@ abbrev pub toldHeader : HeaderRead → Outcome (Head × ℕ)
 toldHeader (headerRead.Header h) = good (headOfHeader h, h .run)
 toldHeader (headerRead.Refused r) = refused r
 
--- the header of the message at the start of s, which stands at place p, and how long its option run is
-unfoldable pub headerHere : ℕ → List ℕ → Outcome (Head × ℕ)
-headerHere p s = do
-  n ← optionRunLength p s (head s)
-  good (head s, n)
-
--- what a header that was read leaves known of the message at the start of s, which stands at place p
+-- what a header that passes checks 1 to 9 leaves known of the message at the start of s, which stands at place p
 pub record Opened (s : List ℕ) (h : Header) (p : ℕ) : Type 0 where
+  pub nine : good tt ≡ eightAndNine p (headOfHeader h)
   pub least : 24 + 4 * h .words ≤ h .length
   pub most : h .length ≤ length s
   pub run : 24 + h .run ≤ length s
@@ -228,13 +230,23 @@ messageNumbers (messageRead.Refused r) = record { number = numberOf (r .why); pl
 
 -- ---- a message in a recording, its packages not looked at
 
--- the header of the message at the start of s, which stands at place p, and how long its option run is: checks 1 to 9
-unfoldable pub frontHere : ℕ → List ℕ → Outcome (Head × ℕ)
-frontHere p s = do
-  n ← checksOneToNine p s (head s)
-  good (head s, n)
+-- how long the option run of the message at place p of a recording is: checks 12 and 1 to 7, and 8 and 9 if they are wanted
+unfoldable pub checkedRun : List ℕ → ℕ → Bool → Outcome ℕ
+checkedRun s p nine = do
+  notLarge s
+  elim nine [ true ↦ checksOneToNine p (drop p s) (head (drop p s)) | false ↦ optionRunLength p (drop p s) (head (drop p s)) ]
 
--- that of the message at place p of a recording, read with 12 and 1 to 9
+-- checks 12 and 1 to 9 of it
+unfoldable pub frontRun : List ℕ → ℕ → Outcome ℕ
+frontRun s p = do
+  notLarge s
+  checksOneToNine p (drop p s) (head (drop p s))
+
+-- the numbers at place p of a recording, as a header with an option run of n bytes; zeros where fewer than 24 bytes stand there
+unfoldable pub headerIn : List ℕ → ℕ → ℕ → Header
+headerIn s p n = headerOf (drop p s) n
+
+-- the header of the message at place p, read with 12 and 1 to 9, and how long its option run is
 unfoldable pub frontAt : List ℕ → ℕ → Outcome (Head × ℕ)
 frontAt s p = do
   notLarge s

@@ -5,11 +5,10 @@ ghost use mathlib.Core.Path.{_≡_};
 ghost use mathlib.Core.Bool.{true};
 ghost use mathlib.Core.List.{[]};
 ghost use Prim.Native.Nat.{_+_, _*_, _/_, _<_};
-ghost use lib.Dec.{ltb};
 ghost use lib.ListN.{length};
+ghost use Rattle.rules.specs.Outcome.{good};
 ghost use Rattle.rules.specs.Options as options;
 ghost use Rattle.rules.specs.Message as rule;
-ghost use Rattle.rules.specs.Packages as packages;
 ghost use Rattle.rules.specs.Reading as reading;
 ghost use Rattle.rules.specs.Walk as walks;
 ghost use Rattle.rules.specs.Packages.{packageTime};
@@ -362,55 +361,124 @@ fn checks_one_to_seven(m: &[u8], h: Tested, p: usize) -> Count
     }
 }
 
-// The header at the start of m, whose tested numbers are h, with an option run of so many bytes.
-fn header_of(m: &[u8], h: Tested, run: usize) -> Header
-    ensures { λ r. ⌜ r ≡ spec.headerOf h (rule.head (now (m .entry))) run ⌝ }
-{
-    let flags = wire::byte_at(m, 3);
-    let id = Mdid(wire::word_at(m, 4));
-    let sequence = wire::word_at(m, 8);
-    let seconds = wire::word_at(m, 16);
-    Header {
-        words: h.words,
-        flags,
-        id,
-        sequence,
-        length: h.size,
-        seconds,
-        nanos: h.nanos,
-        run,
-    }
-}
-
-// The header of the message at the start of m, which stands at place p: checks 1 to 7. Fewer than 24 bytes are refused before any number is read.
-fn header_here(m: &[u8], p: usize) -> HeaderRead
+// The same by the message's own numbers, of which none is read where m has fewer than 24 bytes.
+fn run_here(m: &[u8], p: usize) -> Count
     requires { ⌜ p + length (now m) < 4294967296 ⌝ }
-    ensures { λ r. ⌜ spec.toldHeader r ≡ spec.headerHere p (now (m .entry)) ⌝ }
+    ensures { λ r. ⌜ spec.toldCount r ≡ rule.optionRunLength p (now (m .entry)) (rule.head (now (m .entry))) ⌝ }
 {
     if m.len() < 24 {
-        return HeaderRead::Refused(Refusal {
+        return Count::Refused(Refusal {
             why: Why::Short,
             place: p,
         });
     }
     let h = tested_in(m);
-    match checks_one_to_seven(m, h, p) {
-        Count::Refused(r) => HeaderRead::Refused(r),
-        Count::Number(n) => HeaderRead::Header(header_of(m, h, n)),
+    checks_one_to_seven(m, h, p)
+}
+
+fn no_header() -> Header
+    ensures { λ r. ⌜ r ≡ spec.noHeader ⌝ }
+{
+    Header {
+        words: 0,
+        flags: 0,
+        id: Mdid(0),
+        sequence: 0,
+        length: 0,
+        seconds: 0,
+        nanos: 0,
+        run: 0,
     }
+}
+
+// The numbers of the header at the start of m, with an option run of so many bytes, and zeros where m has fewer than 24 bytes. A header is read where
+// it stands, by whoever needs its numbers, and is never handed on in memory.
+fn header_of(m: &[u8], run: usize) -> Header
+    ensures { λ r. ⌜ r ≡ spec.headerOf (now (m .entry)) run ⌝ }
+{
+    if m.len() < 24 {
+        return no_header();
+    }
+    Header {
+        words: wire::byte_at(m, 0) % 16,
+        flags: wire::byte_at(m, 3),
+        id: Mdid(wire::word_at(m, 4)),
+        sequence: wire::word_at(m, 8),
+        length: wire::word_at(m, 12),
+        seconds: wire::word_at(m, 16),
+        nanos: wire::word_at(m, 20),
+        run,
+    }
+}
+
+// The same for the header at place `at`.
+pub fn header_in(s: &[u8], at: usize, run: usize) -> Header
+    ensures { λ r. ⌜ r ≡ spec.headerIn (now (s .entry)) at run ⌝ }
+{
+    if s.len() < at {
+        return no_header();
+    }
+    header_of(&s[at..], run)
+}
+
+// 1 where there are bytes between a and e, and 0 otherwise.
+fn one_if_bytes(a: usize, e: usize) -> u8
+    ensures { λ r. ⌜ r ≡ spec.oneIfBytes a e ⌝ }
+{
+    if a < e { 1 } else { 0 }
+}
+
+// Checks 8 and 9 of a message at place p with this header: its payload has bytes where it ends behind its beginning.
+fn checks_eight_and_nine(h: Header, p: usize) -> Gate
+    ensures { λ r. ⌜ spec.toldGate r ≡ spec.eightAndNine p (spec.headOfHeader h) ⌝ }
+{
+    if h.flags / 16 % 4 != 0 {
+        return shut(Why::Fragment, p);
+    }
+    let a = payload_start(h.words);
+    let e = wide32(h.length);
+    if h.flags / 128 % 2 != one_if_bytes(a, e) {
+        return shut(Why::Standard, p);
+    }
+    Gate::Open
+}
+
+// Checks 12 and 1 to 7 of the message at place `at` of a recording, and 8 and 9 if they are wanted: how long its option run is.
+fn checked_run(s: &[u8], at: usize, nine: bool) -> Count
+    ensures { λ r. ⌜ spec.toldCount r ≡ spec.checkedRun (now (s .entry)) at nine ⌝ }
+{
+    if 65536 < s.len() {
+        return Count::Refused(Refusal {
+            why: Why::Large,
+            place: 65536,
+        });
+    }
+    if s.len() < at {
+        return Count::Refused(Refusal {
+            why: Why::Short,
+            place: at,
+        });
+    }
+    let m = &s[at..];
+    let found = run_here(m, at);
+    if nine {
+        if let Count::Number(n) = found {
+            if let Gate::Shut(r) = checks_eight_and_nine(header_of(m, n), at) {
+                return Count::Refused(r);
+            }
+        }
+    }
+    found
 }
 
 // The header of the message at the start of s.
 pub fn read_header(s: &[u8]) -> HeaderRead
     ensures { λ r. ⌜ spec.toldHeader r ≡ reading.header (now (s .entry)) ⌝ }
 {
-    if 65536 < s.len() {
-        return HeaderRead::Refused(Refusal {
-            why: Why::Large,
-            place: 65536,
-        });
+    match checked_run(s, 0, false) {
+        Count::Refused(r) => HeaderRead::Refused(r),
+        Count::Number(n) => HeaderRead::Header(header_of(s, n)),
     }
-    header_here(s, 0)
 }
 
 // Its option run, as a part of s; empty where the header is refused.
@@ -523,13 +591,6 @@ fn packages_of(q: &[u8], p: usize) -> Count
     Count::Number(n)
 }
 
-// 1 where there are bytes between a and e, and 0 otherwise.
-fn one_if_bytes(a: usize, e: usize) -> u8
-    ensures { λ r. ⌜ r ≡ spec.oneIfBytes a e ⌝ }
-{
-    if a < e { 1 } else { 0 }
-}
-
 // Whether an option run says another number of packages.
 pub fn miscounts(run: &[u8], packages: usize) -> bool
     ensures { λ r. ⌜ r ≡ options.differs (options.countSaid (now (run .entry))) packages ⌝ }
@@ -540,29 +601,11 @@ pub fn miscounts(run: &[u8], packages: usize) -> bool
     }
 }
 
-// Checks 8 and 9 of a message at place p with this header: its payload has bytes where it ends behind its beginning.
-fn checks_eight_and_nine(h: Header, p: usize) -> Gate
-    ensures { λ r. ⌜ spec.toldGate r ≡ spec.eightAndNine p (spec.headOfHeader h) ⌝ }
-{
-    if h.flags / 16 % 4 != 0 {
-        return shut(Why::Fragment, p);
-    }
-    let a = payload_start(h.words);
-    let e = wide32(h.length);
-    if h.flags / 128 % 2 != one_if_bytes(a, e) {
-        return shut(Why::Standard, p);
-    }
-    Gate::Open
-}
-
-// Checks 8 to 10 and COUNT of the message at the start of m, which stands at place p and has this header.
-fn checks_from_eight(m: &[u8], h: Header, p: usize) -> MessageRead
+// Check 10 and COUNT of the message at the start of m, which stands at place p and has this header.
+fn checks_from_ten(m: &[u8], h: Header, p: usize) -> MessageRead
     requires { ⌜ spec.Opened (now m) h p ⌝ }
     ensures { λ r. ⌜ spec.toldMessage r ≡ spec.spotBehindRun p (now (m .entry)) (spec.headOfHeader h) (h .run) ⌝ }
 {
-    if let Gate::Shut(r) = checks_eight_and_nine(h, p) {
-        return MessageRead::Refused(r);
-    }
     let a = payload_start(h.words);
     let e = wide32(h.length);
     match packages_of(&m[a..e], p + a) {
@@ -585,80 +628,80 @@ fn checks_from_eight(m: &[u8], h: Header, p: usize) -> MessageRead
     }
 }
 
-// Every check of the message at the start of m, which stands at place p: 1 to 10, and COUNT.
-fn message_here(m: &[u8], p: usize) -> MessageRead
-    requires { ⌜ p + length (now m) < 4294967296 ⌝ }
-    ensures { λ r. ⌜ spec.toldMessage r ≡ spec.messageHere p (now (m .entry)) ⌝ }
+// Whether the message at the start of m, which stands at place p, has no options and passes checks 1 to 9: so do nearly all.
+fn is_plain(m: &[u8], p: usize) -> bool
+    ensures { λ r. ⌜ (r ≡ true → rule.checksOneToNine p (now (m .entry)) (rule.head (now (m .entry))) ≡ good 0) ⌝ }
 {
-    match header_here(m, p) {
-        HeaderRead::Refused(r) => MessageRead::Refused(r),
-        HeaderRead::Header(h) => checks_from_eight(m, h, p),
+    if m.len() < 24 {
+        return false;
+    }
+    let h = tested_in(m);
+    if h.words != 0 {
+        return false;
+    }
+    if let Gate::Shut(_) = checks_one_to_six(m, h, p) {
+        return false;
+    }
+    match checks_eight_and_nine(header_of(m, 0), p) {
+        Gate::Open => true,
+        Gate::Shut(_) => false,
     }
 }
 
-// The header of the message at the start of m, which stands at place p: checks 1 to 9.
-fn front_here(m: &[u8], p: usize) -> HeaderRead
-    requires { ⌜ p + length (now m) < 4294967296 ⌝ }
-    ensures { λ r. ⌜ spec.toldHeader r ≡ spec.frontHere p (now (m .entry)) ⌝ }
+// The same for the message at place `at` of a recording that is not too large.
+fn plain_at(s: &[u8], at: usize) -> bool
+    ensures { λ r. ⌜ (r ≡ true → spec.frontRun (now (s .entry)) at ≡ good 0) ⌝ }
 {
-    let found = header_here(m, p);
-    match found {
-        HeaderRead::Refused(_) => found,
-        HeaderRead::Header(h) => {
-            if let Gate::Shut(r) = checks_eight_and_nine(h, p) {
-                return HeaderRead::Refused(r);
-            }
-            found
-        }
+    if 65536 < s.len() {
+        return false;
+    }
+    if s.len() < at {
+        return false;
+    }
+    is_plain(&s[at..], at)
+}
+
+// How long the option run of the message at place `at` of a recording is, which is checked but for its packages: 12 and 1 to 9. A plain message needs
+// no call.
+pub fn front_run(s: &[u8], at: usize) -> Count
+    ensures { λ r. ⌜ spec.toldCount r ≡ spec.frontRun (now (s .entry)) at ⌝ }
+{
+    if plain_at(s, at) {
+        return Count::Number(0);
+    }
+    // The answer is taken apart, so that that of a plain message stays in registers.
+    match checked_run(s, at, true) {
+        Count::Refused(r) => Count::Refused(r),
+        Count::Number(n) => Count::Number(n),
     }
 }
 
-// Whether fewer than 24 bytes stand from place `at` on, of n.
-fn is_short(n: usize, at: usize) -> bool
-    ensures { λ r. ⌜ r ≡ ltb n (at + 24) ⌝ }
+// The header of the message at place `at` of a recording, which is checked so.
+pub fn front_at(s: &[u8], at: usize) -> HeaderRead
+    ensures { λ r. ⌜ spec.toldHeader r ≡ spec.frontAt (now (s .entry)) at ⌝ }
 {
-    if n < 24 {
-        return true;
+    match front_run(s, at) {
+        Count::Refused(r) => HeaderRead::Refused(r),
+        Count::Number(n) => HeaderRead::Header(header_in(s, at, n)),
     }
-    n - 24 < at
 }
 
 // The message at place `at` of a recording.
 pub fn message_at(s: &[u8], at: usize) -> MessageRead
     ensures { λ r. ⌜ spec.toldMessage r ≡ reading.messageAt (now (s .entry)) at ⌝ }
 {
-    if 65536 < s.len() {
-        return MessageRead::Refused(Refusal {
-            why: Why::Large,
-            place: 65536,
-        });
-    }
-    if is_short(s.len(), at) {
-        return MessageRead::Refused(Refusal {
-            why: Why::Short,
-            place: at,
-        });
-    }
-    message_here(&s[at..], at)
-}
-
-// The header of the message at place `at` of a recording, which is checked but for its packages: 12 and 1 to 9.
-pub fn front_at(s: &[u8], at: usize) -> HeaderRead
-    ensures { λ r. ⌜ spec.toldHeader r ≡ spec.frontAt (now (s .entry)) at ⌝ }
-{
-    if 65536 < s.len() {
-        return HeaderRead::Refused(Refusal {
-            why: Why::Large,
-            place: 65536,
-        });
-    }
-    if s.len() < at {
-        return HeaderRead::Refused(Refusal {
-            why: Why::Short,
-            place: at,
-        });
-    }
-    front_here(&s[at..], at)
+    let run = if plain_at(s, at) {
+        0
+    } else {
+        match checked_run(s, at, true) {
+            Count::Refused(r) => {
+                return MessageRead::Refused(r);
+            }
+            Count::Number(n) => n,
+        }
+    };
+    let h = header_in(s, at, run);
+    checks_from_ten(&s[at..], h, at)
 }
 
 // How many messages and packages a recording has.
@@ -675,7 +718,7 @@ pub fn check(s: &[u8]) -> Checked
     let mut messages = 0;
     let mut packages = 0;
     while i < s.len() {
-        match message_here(&s[i..], i) {
+        match message_at(s, i) {
             MessageRead::Message(m) => {
                 i = m.next;
                 messages += 1;

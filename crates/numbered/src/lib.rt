@@ -15,12 +15,13 @@ ghost use Rattle.sheet.specs.Table.{rowsIn};
 ghost use Rattle.numbered.specs.Quota.{badIds, someTwice, settled, measuredIds, shorter, mostIn};
 ghost use Rattle.numbered.specs.Parts.{messageBy, WalkedOver, finished, Took, withPackage, withEntry, Placed, pieceAs, Stored, StoredRun, picked, headBytes, Place, Sees, slotOf, heldWith, numberAt, Ready, Delivered, Roomy, Wrote, Tells, Marked, Single, Seated, judgedAs, knownOf, roomOf, Most, refusedIds};
 ghost use Rattle.numbered.specs.Told.{progress, toldMeasure, measured, Counts, MarkedBy, stateOf, told, toldIds, MeasuredIds, Copied};
+use message::Count;
 use message::Header;
-use message::HeaderRead;
 use message::Message;
 use message::Package;
 use message::PackageRead;
-use message::front_at;
+use message::front_run;
+use message::header_in;
 use message::miscounts;
 use message::package_at;
 use message::package_time;
@@ -151,10 +152,11 @@ fn take_message(
     requires { ⌜ (length (now input) ≤ 65536) × (12 * first ≤ at) × (length (now table) ≤ 224) × (length (now near) ≡ 128) × (length (now marks) ≡ 683) ⌝ }
     ensures { λ r. ⌜ Took (rowsIn (now (table .entry))) (now (input .entry)) at (now (marks .entry)) (now (marks .exit)) first r ⌝ }
 {
-    let found = front_at(input, at);
+    let found = front_run(input, at);
     match found {
-        HeaderRead::Refused(f) => MessageTaken::Refused(f),
-        HeaderRead::Header(h) => {
+        Count::Refused(f) => MessageTaken::Refused(f),
+        Count::Number(run) => {
+            let h = header_in(input, at, run);
             let from = at + (24 + 4 * h.words as usize);
             let next = at + h.length as usize;
             let walked = measure_packages(&input[from..next], h, table, near, marks, first);
@@ -590,10 +592,11 @@ fn write_messages(
     let mut at = 0;
     let mut passed = 0;
     while at < recording.len() {
-        let found = front_at(recording, at);
-        let HeaderRead::Header(h) = found else {
+        let found = front_run(recording, at);
+        let Count::Number(run) = found else {
             return reached.held;
         };
+        let h = header_in(recording, at, run);
         let from = at + (24 + 4 * h.words as usize);
         let behind = at + h.length as usize;
         let kept = write_packages(

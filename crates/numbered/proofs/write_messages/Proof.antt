@@ -7,20 +7,14 @@ use lib.ListN.{length}
 use lib.Seq.{length-sets, length-take-le}
 use Rattle.message.specs.declared.Header.{Header}
 use Rattle.message.specs.declared.HeaderRead.the-variants as header
-use Rattle.message.specs.Answers.{toldHeader, frontAt}
-use Rattle.message.proofs.Fronts.{Fronted, fronted}
+use Rattle.message.specs.Answers.{toldCount, toldHeader, frontAt}
+use Rattle.message.proofs.Fronts.{front-bad, front-good, Fronted, fronted}
 use Rattle.sheet.specs.Table.{rowsIn}
 use Rattle.numbered.specs.Parts.{Marked, Roomy}
 use Rattle.numbered.proofs.Marks.{sees-none}
 use Rattle.numbered.proofs.Written.{Writing, write-start, write-ended, write-refused, ready, fits, few′, write-next, ids-same, next-same}
 use Rattle.numbered.proofs.write_messages.Statement.{statement}
 use Rattle.numbered.proofs.write_messages.Tie as tie
-use Rattle.numbered.proofs.write_messages.Reads as reads
-use Rattle.numbered.proofs.write_messages.Lts as lts
-use Rattle.numbered.proofs.see.Reads as see
-use Rattle.message.proofs.front_at.Reads as front-at
-use Rattle.numbered.proofs.write_packages.Reads as write-packages
-use Rattle.numbered.proofs.deliver.Reads as deliver
 
 abbrev Inv-loop : tie.InvT-loop
 Inv-loop recording table marks ids₀ next₀ held out₀ seen₀ reached₀ at₀ passed₀ ids next out seen reached at passed =
@@ -33,17 +27,14 @@ abbrev μ-loop : tie.MeasureT-loop
 μ-loop recording table marks ids₀ next₀ held out₀ seen₀ reached₀ at₀ passed₀ ids next out seen reached at passed = length recording - at
 
 -- a front was read
-abbrev Read : Type 0
-Read = lts.After-found (see.Asked, see.Learnt, front-at.Asked, front-at.Learnt, write-packages.Asked, write-packages.Learnt, deliver.Asked, deliver.Learnt) reads.Pre reads.Post Inv-loop μ-loop
+abbrev H : tie.After-header-in Inv-loop μ-loop → Header
+H c = c .header-in .result
 
-abbrev H : Read → Header
-H c = c .found .given .0 .0
+read : (c : tie.After-header-in Inv-loop μ-loop) → toldHeader (header.Header (H c)) ≡ frontAt (c .before .before .before .before .before .before .before .before .before .before .before .before .before .before .before .before .before .args .recording .now) (c .before .before .before .before .before .before .loop .at)
+read c = front-good _ _ _ _ (ap toldCount (sym (c .before .before .found .given .1)) ∙ c .before .before .before .before .front-run .ensures) (c .header-in .ensures)
 
-read : (c : Read) → toldHeader (header.Header (H c)) ≡ frontAt (c .before .before .before .before .before .before .before .before .before .before .before .before .before .before .before .args .recording .now) (c .before .before .before .before .loop .at)
-read c = ap toldHeader (sym (c .found .given .1)) ∙ c .before .before .front-at .ensures
-
-places : (c : Read) → Fronted (c .before .before .before .before .before .before .before .before .before .before .before .before .before .before .before .args .recording .now) (c .before .before .before .before .loop .at) (H c)
-places c = fronted (c .before .before .before .before .before .before .before .before .before .before .before .before .before .before .before .args .recording .now) (c .before .before .before .before .loop .at) (H c) (read c)
+places : (c : tie.After-header-in Inv-loop μ-loop) → Fronted (c .before .before .before .before .before .before .before .before .before .before .before .before .before .before .before .before .before .args .recording .now) (c .before .before .before .before .before .before .loop .at) (H c)
+places c = fronted _ _ (H c) (read c)
 
 slice-reshare-prefix-see : tie.Need-slice-reshare-prefix-see Inv-loop μ-loop
 slice-reshare-prefix-see c = c .before .before .before .before .before .before .pre .1 .ids-held
@@ -63,8 +54,8 @@ loop-holds c =
     let p = c .before .before .before .before .before .before .before .before .before .before .pre in
     (p .0, p .1, p .2, write-start (rowsIn (a .table .now)) (a .recording .now) (a .ids .now) (a .next .now) (a .held) (a .out .now) (p .1) _ (c .before .see .ensures) (search needs))
 
-front-at-requires : tie.Need-front-at-requires Inv-loop μ-loop
-front-at-requires c κs = search needs
+front-run-requires : tie.Need-front-run-requires Inv-loop μ-loop
+front-run-requires c κs = search needs
 
 enum-known-found : tie.Need-enum-known-found Inv-loop μ-loop
 enum-known-found c = search needs
@@ -91,7 +82,10 @@ returns : tie.Need-returns Inv-loop μ-loop
 returns c =
     let v = c .before .before .before .before .loop in
     let a = c .before .before .before .before .before .before .before .before .before .before .before .before .before .before .before .args in
-    absurd (write-refused (rowsIn (a .table .now)) (a .recording .now) (a .ids .now) (a .next .now) (a .held) (a .out .now) (v .inv .1) (v .out) (v .ids) (v .next) (v .seen) (v .reached) (v .at) (v .passed) (v .inv .3) (v .inv .0) (search needs) (c .enum-told .given .0 .0) (ap toldHeader (sym (c .enum-told .given .1)) ∙ c .before .before .front-at .ensures))
+    absurd (write-refused (rowsIn (a .table .now)) (a .recording .now) (a .ids .now) (a .next .now) (a .held) (a .out .now) (v .inv .1) (v .out) (v .ids) (v .next) (v .seen) (v .reached) (v .at) (v .passed) (v .inv .3) (v .inv .0) (search needs) (c .enum-told .given .0 .0) (front-bad _ _ (ap toldCount (sym (c .enum-told .given .1)) ∙ c .before .before .front-run .ensures)))
+
+header-in-requires : tie.Need-header-in-requires Inv-loop μ-loop
+header-in-requires c κs = search needs
 
 cast-from : tie.Need-cast-from Inv-loop μ-loop
 cast-from c = search needs
@@ -103,42 +97,42 @@ add-from : tie.Need-add-from Inv-loop μ-loop
 add-from c = search needs
 
 add-from-2 : tie.Need-add-from-2 Inv-loop μ-loop
-add-from-2 c = let f = places (c .before .before) in omega (arith, f .whole, f .within, f .forth)
+add-from-2 c = let f = places (c .before) in omega (arith, f .whole, f .within, f .forth)
 
 cast-behind : tie.Need-cast-behind Inv-loop μ-loop
 cast-behind c = search needs
 
 add-behind : tie.Need-add-behind Inv-loop μ-loop
-add-behind c = let f = places (c .before .before .before) in omega (arith, f .whole, f .within, f .forth)
+add-behind c = let f = places (c .before .before) in omega (arith, f .whole, f .within, f .forth)
 
 sub-write-packages : tie.Need-sub-write-packages Inv-loop μ-loop
-sub-write-packages c = places (c .before .before .before) .forth
+sub-write-packages c = places (c .before .before) .forth
 
 part-write-packages-start : tie.Need-part-write-packages-start Inv-loop μ-loop
-part-write-packages-start c = places (c .before .before .before) .forth
+part-write-packages-start c = places (c .before .before) .forth
 
 part-write-packages-end : tie.Need-part-write-packages-end Inv-loop μ-loop
-part-write-packages-end c = places (c .before .before .before) .within
+part-write-packages-end c = places (c .before .before) .within
 
 add-write-packages : tie.Need-add-write-packages Inv-loop μ-loop
 add-write-packages c =
-    let i = c .before .before .before .before .before .before .before .before .before .before .loop .inv in
+    let i = c .before .before .before .before .before .before .before .before .before .before .before .loop .inv in
     omega (arith, i .3 .short, i .3 .inside, i .0)
 
 write-packages-requires : tie.Need-write-packages-requires Inv-loop μ-loop
 write-packages-requires c κs =
-    let i = c .before .before .before .before .before .before .before .before .before .before .loop .inv in
-    (places (c .before .before .before .before .before .before) .small, omega (arith, i .3 .few, i .3 .inside, i .0), omega (arith, i .3 .short, i .3 .inside, i .0))
+    let i = c .before .before .before .before .before .before .before .before .before .before .before .loop .inv in
+    (places (c .before .before .before .before .before) .small, omega (arith, i .3 .few, i .3 .inside, i .0), omega (arith, i .3 .short, i .3 .inside, i .0))
 
 slice-aggregate-deliver : tie.Need-slice-aggregate-deliver Inv-loop μ-loop
-slice-aggregate-deliver c = search needs
+slice-aggregate-deliver c = sym (c .before .before .before .before .before .before .before .before .before .before .before .before .before .before .before .before .before .before .loop .inv .3 .long)
 
 deliver-requires : tie.Need-deliver-requires Inv-loop μ-loop
 deliver-requires c κs =
     let w = c .before .before .before .before .before .before .write-packages in
-    let h = c .before .before .before .before .before .before .before .before .before .before .before .before .before in
-    let v = c .before .before .before .before .before .before .before .before .before .before .before .before .before .before .before .before .before .loop in
-    let a = c .before .before .before .before .before .before .before .before .before .before .before .before .before .before .before .before .before .before .before .before .before .before .before .before .before .before .before .before .args in (
+    let h = c .before .before .before .before .before .before .before .before .before .before .before .before in
+    let v = c .before .before .before .before .before .before .before .before .before .before .before .before .before .before .before .before .before .before .loop in
+    let a = c .before .before .before .before .before .before .before .before .before .before .before .before .before .before .before .before .before .before .before .before .before .before .before .before .before .before .before .before .before .args in (
       fits (rowsIn (a .table .now)) (a .recording .now) (a .ids .now) (a .next .now) (a .held) (a .out .now) (v .inv .1) (v .out) (v .ids) (v .next) (v .seen) (v .reached) (v .at) (v .passed) (v .inv .3) (v .inv .0) (search needs) (a .marks .now) (v .inv .2) (H h) (read h) _ (w .result) (w .ensures),
       search needs,
       ready (rowsIn (a .table .now)) (a .recording .now) (a .ids .now) (a .next .now) (a .held) (a .out .now) (v .inv .1) (v .out) (v .ids) (v .next) (v .seen) (v .reached) (v .at) (v .passed) (v .inv .3) (v .inv .0) (search needs) (a .marks .now) (v .inv .2) (H h) (read h) _ (w .result) (w .ensures),
@@ -147,23 +141,23 @@ deliver-requires c κs =
 add-passed : tie.Need-add-passed Inv-loop μ-loop
 add-passed c =
     let w = c .before .before .before .before .before .before .before .before .before .before .before .before .before .before .before .write-packages in
-    let h = c .before .before .before .before .before .before .before .before .before .before .before .before .before .before .before .before .before .before .before .before .before .before in
-    let v = c .before .before .before .before .before .before .before .before .before .before .before .before .before .before .before .before .before .before .before .before .before .before .before .before .before .before .loop in
-    let a = c .before .before .before .before .before .before .before .before .before .before .before .before .before .before .before .before .before .before .before .before .before .before .before .before .before .before .before .before .before .before .before .before .before .before .before .before .before .args in
+    let h = c .before .before .before .before .before .before .before .before .before .before .before .before .before .before .before .before .before .before .before .before .before in
+    let v = c .before .before .before .before .before .before .before .before .before .before .before .before .before .before .before .before .before .before .before .before .before .before .before .before .before .before .before .loop in
+    let a = c .before .before .before .before .before .before .before .before .before .before .before .before .before .before .before .before .before .before .before .before .before .before .before .before .before .before .before .before .before .before .before .before .before .before .before .before .before .before .args in
     omega (arith, v .inv .0, places h .within, few′ (rowsIn (a .table .now)) (a .recording .now) (a .ids .now) (a .next .now) (a .held) (a .out .now) (v .inv .1) (v .out) (v .ids) (v .next) (v .seen) (v .reached) (v .at) (v .passed) (v .inv .3) (v .inv .0) (search needs) (a .marks .now) (v .inv .2) (H h) (read h) _ (w .result) (w .ensures))
 
 loop-less : tie.Need-loop-less Inv-loop μ-loop
 loop-less c =
-    let s = places (c .before .before .before .before .before .before .before .before .before .before .before .before .before .before .before .before .before .before .before .before .before .before) in
+    let s = places (c .before .before .before .before .before .before .before .before .before .before .before .before .before .before .before .before .before .before .before .before .before) in
     omega (arith, s .on, s .within)
 
 loop-again : tie.Need-loop-again Inv-loop μ-loop
 loop-again c =
     let d = c .before .before .before .before .before .before .before .before .deliver in
     let w = c .before .before .before .before .before .before .before .before .before .before .before .before .before .before .before .write-packages in
-    let h = c .before .before .before .before .before .before .before .before .before .before .before .before .before .before .before .before .before .before .before .before .before .before in
-    let v = c .before .before .before .before .before .before .before .before .before .before .before .before .before .before .before .before .before .before .before .before .before .before .before .before .before .before .loop in
-    let a = c .before .before .before .before .before .before .before .before .before .before .before .before .before .before .before .before .before .before .before .before .before .before .before .before .before .before .before .before .before .before .before .before .before .before .before .before .before .args in
+    let h = c .before .before .before .before .before .before .before .before .before .before .before .before .before .before .before .before .before .before .before .before .before in
+    let v = c .before .before .before .before .before .before .before .before .before .before .before .before .before .before .before .before .before .before .before .before .before .before .before .before .before .before .before .loop in
+    let a = c .before .before .before .before .before .before .before .before .before .before .before .before .before .before .before .before .before .before .before .before .before .before .before .before .before .before .before .before .before .before .before .before .before .before .before .before .before .before .args in
     (v .inv .0, v .inv .1, v .inv .2, write-next (rowsIn (a .table .now)) (a .recording .now) (a .ids .now) (a .next .now) (a .held) (a .out .now) (v .inv .1) (v .out) (v .ids) (v .next) (v .seen) (v .reached) (v .at) (v .passed) (v .inv .3) (v .inv .0) (search needs) (a .marks .now) (v .inv .2) (H h) (read h) _ (w .result) (w .ensures) _ _ _ _ _ (d .ensures))
 
 same-length-4 : tie.Need-same-length-4 Inv-loop μ-loop
@@ -198,13 +192,14 @@ write-messages-spec =
     slice-aggregate-see-2
     see-requires
     loop-holds
-    front-at-requires
+    front-run-requires
     enum-known-found
     enum-told
     same-length
     same-length-2
     same-length-3
     returns
+    header-in-requires
     cast-from
     mul-from
     add-from
