@@ -5,7 +5,7 @@ use mathlib.Core.List.{List, [], _∷_, map}
 use native.Mathlib.Omega.{arith}
 use borrow.Author.Tests.{le-ltb}
 use lib.ListN.{length, length-append}
-use Rattle.rules.specs.Outcome.{Outcome, good, _>>=_, _>>_}
+use Rattle.rules.specs.Outcome.{Outcome, good, _>>=_, _>>_, ROOM}
 use Rattle.rules.specs.Bytes.{Bytes, part, join}
 use Rattle.rules.specs.Message.{headerBytes, notLarge, Head, head, payload, optionRunLength, Message, message, recording, checksOneToNine, checksOneToTen, everyCheck}
 use Rattle.rules.specs.Reading.{header, optionRun, packagesOf, checkedRecording}
@@ -13,11 +13,11 @@ use Rattle.rules.specs.Buffer.{fitted, stored}
 use Rattle.rules.specs.Writer.{Draft, written, writer}
 use Rattle.rules.specs.Clean.{cleanForm, cleaner}
 use Rattle.rules.specs.Sheet.{Row}
-use Rattle.rules.specs.Copy.{Entry, packagesIn, Answer, releasedOf, reported, measurement, roomFor, copy}
+use Rattle.rules.specs.Copy.{Entry, packagesIn, Answer, releasedOf, reported, measurement, roomFor, answered, copy}
 use Rattle.rules.specs.Burst.{randomized, opening, randomizer, opener}
-use Rattle.rules.specs.Claims.{BuffersKept, PremisesMet, RoundTrips, Writes, BuffersWritten, CleanExactly, ReadingExactly, WholeRun, OptionsExactly, CountExactly, PackageExactly, WalkExactly, RowExactly, GrantedExactly, WindowsExactly, AcquiredOnly, RandomizerExactly, BurstExactly, RefusalsExactly, SameCopies, DifferentCopies, CopyExactly, SequenceCounted, ReleasedExactly, CopyPlain, TwoSheets, RowAdded, OneOutcome, Claims}
+use Rattle.rules.specs.Claims.{BuffersKept, PremisesMet, RoundTrips, Writes, BuffersWritten, CleanExactly, ReadingExactly, WholeRun, OptionsExactly, CountExactly, PackageExactly, WalkExactly, RowExactly, GrantedExactly, WindowsExactly, AcquiredOnly, RandomizerExactly, BurstExactly, RefusalsExactly, SameCopies, DifferentCopies, CopyExactly, MeasuredFirst, SequenceCounted, ReleasedExactly, CopyPlain, TwoSheets, RowAdded, OneOutcome, Claims}
 use Rattle.rules.proofs.Outcomes.{pass, passed, step, stepped, came-after, good-inj}
-use Rattle.rules.proofs.Reasons.{recording-refused, check-refused, header-refused, cleaning-refused, writing-refused, sheet-refused, rows-refused, release-refused, release-roomless, measure-refused, copy-refused}
+use Rattle.rules.proofs.Reasons.{recording-refused, check-refused, header-refused, cleaning-refused, writing-refused, sheet-refused, rows-refused, release-refused, measure-refused, copy-refused}
 use Rattle.rules.proofs.Kept.{careful-stored, careful-answered, kept-randomized, kept-opened, writes, roomless}
 use Rattle.rules.proofs.Cut as Cut
 use Rattle.rules.proofs.Passed.{sound, passes}
@@ -38,7 +38,9 @@ use Rattle.rules.specs.Edges.{Edges}
 use Rattle.rules.proofs.Edges.{edges}
 use Rattle.rules.proofs.Growing.{copyMessages-snoc, released-append, released-entry, released-none}
 use Rattle.rules.proofs.Interference.{copy-is, delivered-is, same-copy, same-measurement, same-list, copy-short, copy-passes, copy-plain}
+use Rattle.rules.proofs.Nevers.{never-released}
 use Rattle.rules.proofs.Turns as Turns
+use Rattle.rules.proofs.Measured.{measured-roomless, measured-enough, measured-short}
 use Rattle.rules.proofs.Spots.{of-record, spot-read, spot-refused}
 use native.Mathlib.Nat.{zero-add, add-zero}
 
@@ -202,7 +204,6 @@ refusals-exactly = record {
   drafts = draft-refused;
   released = release-refused;
   measured = measure-refused;
-  roomless = release-roomless;
   copied = copy-refused;
   writer = writing-refused;
   cleaner = cleaning-refused;
@@ -241,6 +242,12 @@ copy-exactly recordingBytes sheetBytes es list = record {
   short = λ b. copy-short recordingBytes sheetBytes es b list;
 }
 
+pub measured-first : (recording sheet : List ℕ) → MeasuredFirst recording sheet
+unfolding measurement copy answered
+measured-first recording sheet =
+    let o = releasedOf recording sheet in
+    record { roomless = measured-roomless o (never-released ROOM (λ n l o. o) recording sheet); enough = measured-enough o; short = measured-short o }
+
 pub sequence-counted : SequenceCounted
 sequence-counted = copyMessages-snoc
 
@@ -276,7 +283,7 @@ all-claims = record {
   reading = (reading-exactly, refusals-exactly, options-exactly, count-exactly, package-exactly, walk-exactly);
   writing = (premises-met, round-trips, clean-exactly);
   granting = (row-exactly, granted-by-ranges, windows-exactly, acquired-only, released-exactly);
-  copying = (copy-exactly, sequence-counted, copy-is-plain, two-sheets, row-added);
+  copying = (copy-exactly, measured-first, sequence-counted, copy-is-plain, two-sheets, row-added);
   bursts = (randomizer-exactly, burst-is);
   silence = (same-copies, different-copies);
   outcomes = one-outcome;

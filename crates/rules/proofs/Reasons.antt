@@ -236,9 +236,6 @@ module _ (recordingBytes sheetBytes : List ℕ) where
   release-numbered : {n p : ℕ} → ReleaseRefused recordingBytes sheetBytes n p → n ≡ 0 → ⊥
   release-numbered {p = p} u z = never-released 0 (λ n l o e. omega arith) recordingBytes sheetBytes .given p (rw z at (released-back u))
 
-  pub release-roomless : (p : ℕ) → ReleaseRefused recordingBytes sheetBytes ROOM p → ⊥
-  release-roomless p u = never-released ROOM (λ n l o. o) recordingBytes sheetBytes .given p (released-back u)
-
   pub measure-refused : (n p : ℕ) → ((n ≡ 0 → ⊥) × (measurement recordingBytes sheetBytes ≡ refusal n p)) ↔ ReleaseRefused recordingBytes sheetBytes n p
   unfolding measurement reported
   measure-refused n p = (λ e. released-there (reported-bad (releasedOf recordingBytes sheetBytes) (e .0) (e .1)), λ u. (release-numbered u, ap reported (released-back u)))

@@ -147,8 +147,7 @@ GrantedExactly = (rows : List Row) (m : Message) (k : Package) → (granted rows
 -- A row keeps the rules exactly if in each pair of ids the first is at most the last, both times have nanoseconds within a second, the window starts before it
 -- ends, and the spare bits are zero.
 abbrev pub RowExactly : Type 0
-RowExactly = (r : Row) → (rowFits r ≡ true)
-    ↔ ((r .firstMessage ≤ r .lastMessage) × (r .firstPackage ≤ r .lastPackage) × (r .startNanos ≤ mostNanos) × (r .endNanos ≤ mostNanos) × (startOf r < endOf r) × (r .spare ≡ 0))
+RowExactly = (r : Row) → (rowFits r ≡ true) ↔ ((r .firstMessage ≤ r .lastMessage) × (r .firstPackage ≤ r .lastPackage) × (r .startNanos ≤ mostNanos) × (r .endNanos ≤ mostNanos) × (startOf r < endOf r) × (r .spare ≡ 0))
 
 -- r with a window from start to end, in nanoseconds
 abbrev pub over : ℕ → ℕ → Row → Row
@@ -242,7 +241,7 @@ pub data Unstored {A : Type 0} (Refused : ℕ → ℕ → Type 0) (o : Outcome A
 
 -- Recordings, sheets, released lists, bursts and drafts are refused exactly so. A header alone is refused by checks 1 to 7 and no other: exactly where one of these
 -- refuses its message, with that number and place. A copy, a draft's message and a clean form are refused exactly so, with nothing written and the buffer as it
--- was. No reason has the number 0, and none of measuring is ROOM.
+-- was. No reason has the number 0.
 pub record RefusalsExactly : Type 0 where
   pub header : (s : List ℕ) (n p : ℕ) → length s ≤ mostBytes → (header s ≡ bad n p) ↔ ((n ≤ OPTION) × (message 0 s ≡ bad n p))
   pub recording : (s : List ℕ) (n p : ℕ) → (recording s ≡ bad n p) ↔ BadRecording s n p
@@ -253,7 +252,6 @@ pub record RefusalsExactly : Type 0 where
   pub drafts : (d : Draft) (n p : ℕ) → (written d ≡ bad n p) ↔ DraftRefused d n p
   pub released : (recordingBytes sheetBytes : List ℕ) (n p : ℕ) → (releasedOf recordingBytes sheetBytes ≡ bad n p) ↔ ReleaseRefused recordingBytes sheetBytes n p
   pub measured : (recordingBytes sheetBytes : List ℕ) (n p : ℕ) → ((n ≡ 0 → ⊥) × (measurement recordingBytes sheetBytes ≡ refusal n p)) ↔ ReleaseRefused recordingBytes sheetBytes n p
-  pub roomless : (recordingBytes sheetBytes : List ℕ) (p : ℕ) → ReleaseRefused recordingBytes sheetBytes ROOM p → ⊥
   pub copied : (recordingBytes sheetBytes buffer : List ℕ) (n p : ℕ) → ((n ≡ 0 → ⊥) × (copy recordingBytes sheetBytes buffer ≡ (refusal n p, buffer)))
       ↔ Unstored (ReleaseRefused recordingBytes sheetBytes) (releasedOf recordingBytes sheetBytes) copyBytes buffer n p
   pub writer : (d : Draft) (buffer : List ℕ) (n p : ℕ) → ((n ≡ 0 → ⊥) × (writer d buffer ≡ (unwritten n p, buffer))) ↔ Unstored (DraftRefused d) (written d) (λ c. c) buffer n p
@@ -277,10 +275,16 @@ DifferentCopies = (recording recording′ sheet sheet′ buffer buffer′ : List
 -- delivered is the released list's copy. It is a recording that passes, with a message for each entry, and is never longer than the recording it was made from.
 pub record CopyExactly (recordingBytes sheetBytes : List ℕ) (es : List Entry) (list : releasedOf recordingBytes sheetBytes ≡ good es) : Type 0 where
   pub measured : measurement recordingBytes sheetBytes ≡ record { number = 0; place = 0; bytes = length (copyBytes es); messages = length es; packages = length (join (map (λ (e : Entry). e .packages) es)) }
-  pub written : (buffer : List ℕ) → length (copyBytes es) ≤ length buffer
-      → (copy recordingBytes sheetBytes buffer .0 ≡ measurement recordingBytes sheetBytes) × (delivered (copy recordingBytes sheetBytes buffer) ≡ copyBytes es)
+  pub written : (buffer : List ℕ) → length (copyBytes es) ≤ length buffer → (copy recordingBytes sheetBytes buffer .0 ≡ measurement recordingBytes sheetBytes) × (delivered (copy recordingBytes sheetBytes buffer) ≡ copyBytes es)
   pub read : Bytes recordingBytes → recording (copyBytes es) ≡ good (copyMessages [] es)
   pub short : Bytes recordingBytes → length (copyBytes es) ≤ length recordingBytes
+
+-- Measured first, then written. Measuring never gives ROOM. A buffer of the measured bytes has room, and what writing reports, a refusal too, is what was
+-- measured, number for number; a shorter one is ROOM, with the measured bytes as its place, and stays.
+pub record MeasuredFirst (recording sheet : List ℕ) : Type 0 where
+  pub roomless : measurement recording sheet .number ≡ ROOM → ⊥
+  pub enough : (buffer : List ℕ) → measurement recording sheet .bytes ≤ length buffer → copy recording sheet buffer .0 ≡ measurement recording sheet
+  pub short : (buffer : List ℕ) → length buffer < measurement recording sheet .bytes → copy recording sheet buffer ≡ (refusal ROOM (measurement recording sheet .bytes), buffer)
 
 -- The sequence number of an entry's message is how many of the entries before it have its message id.
 abbrev pub SequenceCounted : Type 0
@@ -337,7 +341,7 @@ pub record Claims : Type 1 where
   pub reading : ReadingExactly × RefusalsExactly × OptionsExactly × CountExactly × PackageExactly × WalkExactly
   pub writing : PremisesMet × RoundTrips × CleanExactly
   pub granting : RowExactly × GrantedExactly × WindowsExactly × ((ns : List ℕ) (ms : List Message) → AcquiredOnly ns ms) × ((rows : List Row) → ReleasedExactly rows)
-  pub copying : ((recordingBytes sheetBytes : List ℕ) (es : List Entry) (list : releasedOf recordingBytes sheetBytes ≡ good es) → CopyExactly recordingBytes sheetBytes es list) × SequenceCounted × CopyPlain × TwoSheets × RowAdded
+  pub copying : ((recordingBytes sheetBytes : List ℕ) (es : List Entry) (list : releasedOf recordingBytes sheetBytes ≡ good es) → CopyExactly recordingBytes sheetBytes es list) × ((recording sheet : List ℕ) → MeasuredFirst recording sheet) × SequenceCounted × CopyPlain × TwoSheets × RowAdded
   pub bursts : RandomizerExactly × BurstExactly
   pub silence : ((recording recording′ sheet sheet′ : List ℕ) (same : releasedOf recording sheet ≡ releasedOf recording′ sheet′) → SameCopies recording recording′ sheet sheet′ same) × DifferentCopies
   pub outcomes : OneOutcome
