@@ -1,7 +1,6 @@
 -- A message checked but for its packages, and what follows of the message once they are walked over.
 use Prim.Native.Nat.{ℕ, _+_, _-_, _*_, _≤_, _<_}
 use mathlib.Core.Path.{_≡_, refl, sym, ap, subst, _∙_}
-use mathlib.Core.Logic.{⊎-elim}
 use mathlib.Core.Bool.{Bool, true, false}
 use mathlib.Core.List.{List, []}
 use native.Mathlib.Nat.{add-zero}
@@ -15,7 +14,7 @@ use Rattle.rules.specs.Options.{optionRunFrom, countSaid, differs}
 use Rattle.rules.specs.Packages.{cut}
 use Rattle.rules.specs.Message.{Head, head, payloadStart, payload, checksOneToSix, optionRunLength, checksEightAndNine, checksOneToNine, checksOneToTen, everyCheck}
 use Rattle.rules.specs.Reading.{MessageSpot, messageSpot, messageAt}
-use Rattle.rules.proofs.Outcomes.{pass, halt, after, step, stop, stop-before, came-after, passed, stepped, good-inj, refused-at, refused-only}
+use Rattle.rules.proofs.Outcomes.{pass, halt, after, step, stop, stop-before, came-after, passed, stepped, good-inj, refused-alike, refused-only}
 use Rattle.rules.proofs.Cut as Cut
 use Rattle.rules.proofs.Loops.{rest}
 use Rattle.rules.proofs.Shifted.{shifted, shifted-cut}
@@ -114,24 +113,20 @@ module _ (s : List ℕ) (p : ℕ) where
 
   pub front-bad : {n q : ℕ} → bad n q ≡ frontRun s p → bad n q ≡ frontAt s p
   unfolding frontRun frontAt
-  front-bad e =
-      sym
-      (⊎-elim (λ z. rw (← z .1, ← z .2) (halt _ _ _ _ (z .0)))
-      (λ z. pass _ _ _ _ (z .0) (stop _ _ (z .1)))
-      (refused-at _ _ _ _ (sym e)))
+  front-bad e = sym (refused-alike _ _ _ _ _ (λ z. stop _ _ z) (sym e))
 
   -- where it passes, and h is its header
   module _ (n : ℕ) (h : Header) (e : good n ≡ frontRun s p) (eh : h ≡ headerIn s p n) where
-    nine-is : checksOneToNine p (drop p s) (head (drop p s)) ≡ good n
-    unfolding frontRun
-    nine-is = passed _ _ _ _ (sym e) .1
+    -- checks 1 to 7 say how long its option run is, and 8 and 9 pass
+    said : (optionRunLength p (drop p s) (head (drop p s)) ≡ good n) × (checksEightAndNine p (drop p s) (head (drop p s)) ≡ good tt)
+    unfolding frontRun checksOneToNine
+    said =
+        let (m, o, z) = stepped _ _ (passed _ _ _ _ (sym e) .1) in
+        let (c, d) = came-after _ _ z in
+        (o ∙ d, c)
 
     seven-is : good n ≡ optionRunLength p (drop p s) (head (drop p s))
-    unfolding checksOneToNine
-    seven-is =
-        let (m, o, z) = stepped _ _ nine-is in
-        let (c, d) = came-after _ _ z in
-        sym (o ∙ d)
+    seven-is = sym (said .0)
 
     there : h ≡ headerOf (drop p s) n
     unfolding headerIn
@@ -154,19 +149,16 @@ module _ (s : List ℕ) (p : ℕ) where
       pub told : {o : Outcome MessageSpot} → o ≡ spotBehindRun p from (headOfHeader h) (h .run) → o ≡ messageAt s p
 
     pub entered : Entered
-    unfolding frontRun checksOneToNine
+    unfolding frontRun
     entered =
-        let (a, g) = passed _ _ _ _ (sym e) in
-        let (m, o, z) = stepped _ _ g in
-        let (c, d) = came-after _ _ z in
-        let small = ltb-false 65536 (length s) a in
+        let small = ltb-false 65536 (length s) (passed _ _ _ _ (sym e) .0) in
         let w = header-sound p (drop p s) (head (drop p s)) (sym seven-is) in
         let sound : Sound (drop p s) (headOfHeader h) = subst (λ (x : Head). Sound (drop p s) x) (sym (its .same)) w in
         let long = length-drop p s in
         record {
           inside = omega (arith, w .long, long);
           opened = rw rest (record {
-            nine = sym (gate p (drop p s) h n there seven-is ∙ c);
+            nine = sym (gate p (drop p s) h n there seven-is ∙ said .1);
             least = sound .least;
             most = sound .most;
             run = run-inside p (drop p s) (head (drop p s)) (sym (its .run));
@@ -230,11 +222,7 @@ module _ (p : ℕ) (s : List ℕ) (h : Head) where
 -- a message that is refused by checks 1 to 9
 pub front-refused : (s : List ℕ) (k : ℕ) (f : Refusal) → toldHeader (headerRead.Refused f) ≡ frontAt s k → toldMessage (messageRead.Refused f) ≡ messageAt s k
 unfolding frontAt messageAt
-front-refused s k f e =
-    sym
-    (⊎-elim (λ z. rw (← z .1, ← z .2) (halt _ _ _ _ (z .0)))
-    (λ z. pass _ _ _ _ (z .0) (stop _ _ (not-nine-not-every k (drop k s) (head (drop k s)) (refused-only _ _ (z .1)))))
-    (refused-at _ _ _ _ (sym e)))
+front-refused s k f e = sym (refused-alike _ _ _ _ _ (λ z. stop _ _ (not-nine-not-every k (drop k s) (head (drop k s)) (refused-only _ _ z))) (sym e))
 
 -- one that passes them
 pub record Known (s : List ℕ) (k : ℕ) (h : Header) : Type 0 where

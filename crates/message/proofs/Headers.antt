@@ -1,7 +1,6 @@
 -- Checks 1 to 7, a header alone, and where its option run lies.
 use Prim.Native.Nat.{ℕ, _+_, _-_, _*_, _≤_, _<_}
 use mathlib.Core.Path.{_≡_, refl, sym, ap, ap₂, _∙_}
-use mathlib.Core.Logic.{⊎-elim}
 use mathlib.Core.Bool.{false}
 use mathlib.Core.List.{List, []}
 use native.Mathlib.Omega.{arith}
@@ -11,7 +10,7 @@ use Rattle.rules.specs.Bytes.{part}
 use Rattle.rules.specs.Options.{optionRunFrom}
 use Rattle.rules.specs.Message.{Head, head, payloadStart, checksOneToSix, optionRunLength}
 use Rattle.rules.specs.Reading.{header}
-use Rattle.rules.proofs.Outcomes.{pass, halt, step, stop, after, stop-before, came-after, passed, stepped, good-inj, refused-at}
+use Rattle.rules.proofs.Outcomes.{pass, step, stop, after, stop-before, came-after, passed, stepped, good-inj, refused-alike}
 use Rattle.rules.proofs.Run.{run-ends}
 use Rattle.rules.proofs.Passed.{Sound, sound}
 use Rattle.message.proofs.Checks.{short, full-header}
@@ -77,11 +76,7 @@ module _ (p : ℕ) (s : List ℕ) where
 module _ (s : List ℕ) where
   pub not-alone : {n q : ℕ} → bad n q ≡ checkedRun s 0 false → bad n q ≡ header s
   unfolding header checkedRun
-  not-alone e =
-      sym
-      (⊎-elim (λ z. rw (← z .1, ← z .2) (halt _ _ _ _ (z .0)))
-      (λ z. pass _ _ _ _ (z .0) (stop _ _ (z .1)))
-      (refused-at _ _ _ _ (sym e)))
+  not-alone e = sym (refused-alike _ _ _ _ _ (λ z. stop _ _ z) (sym e))
 
   pub alone : (n : ℕ) (h : Header) → good n ≡ checkedRun s 0 false → h ≡ headerOf s n → toldHeader (headerRead.Header h) ≡ header s
   unfolding header checkedRun
