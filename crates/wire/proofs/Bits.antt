@@ -1,13 +1,15 @@
 -- Bits in bytes: a bit that is set is set, and no other bit changes.
 use Prim.Native.Nat.{ℕ, zero, suc, _+_, _-_, _*_, _/_, _%_, _^_, _≤_, _<_}
-use mathlib.Core.Path.{_≡_, refl, sym, ap, _∙_}
+use mathlib.Core.Path.{_≡_, refl, sym, ap, ap₂, _∙_}
 use mathlib.Core.Bool.{Bool, true, false}
 use mathlib.Core.List.{List}
-use native.Mathlib.Nat.{add-mul-div-right, div-div-eq-div-mul, mul-assoc, mul-comm, add-zero, zero-mul, zero-div, pow-succ', mod-eq-of-lt}
+use native.Mathlib.Nat.{add-mul-div-right, div-div-eq-div-mul, mul-assoc, mul-comm, add-zero, zero-mul, zero-div, pow-succ', mod-eq-of-lt, mod-lt, add-mul, one-mul}
 use native.Mathlib.Omega.{arith}
 use borrow.Author.Tests.{ltb-true, ltb-false, eqb-true, eqb-false}
+use mir.Val.{boolByte}
 use lib.Dec.{ltb, eqb}
-use lib.Pow.{pow-pos, pow-add}
+use lib.Bits.{bitOr, or-step, or-zero-r, or-block}
+use lib.Pow.{pow-pos, pow-add, pow-lt, split}
 use lib.ListN.{length, getD, set, replicate, length-set}
 use lib.Seq.{set-out, getD-set-same, getD-set-other, set-getD}
 use Rattle.rules.specs.Bytes.{at}
@@ -50,12 +52,6 @@ raise-other v a b ne = go (ltb a b) refl
         let l : b < a = omega (arith, ltb-false a b e) in
         rw (twice b a l) (raise-below v (2 ^ b) (2 ^ (a - b - 1)) (1 - v / (2 ^ b * (2 * 2 ^ (a - b - 1))) % 2) (pow-pos b))
 
--- a byte stays a byte
-raise-fits : (v k : ℕ) → v < 256 → k < 8 → raise v (2 ^ k) < 256
-raise-fits v k small h =
-    let e : raise v (2 ^ k) / 256 ≡ v / 256 = rw (twice k 8 h) (raise-above v (2 ^ k) (2 ^ (8 - k - 1)) (pow-pos k)) in
-    omega arith
-
 -- a bit is 0 or 1
 pub bit-small : (s : List ℕ) (i : ℕ) → bitAt s i < 2
 unfolding bitAt
@@ -94,22 +90,21 @@ unfolding withBitIf withBit
 length-with s i true = length-set s (i / 8) _
 length-with s i false = refl
 
--- what `raised` adds stays in the byte
-module _ (v k : ℕ) (b : Bool) {x o : ℕ} (small : v < 256) (h : k < 8) (old : o ≡ v / 2 ^ k % 2) (more : x ≡ onlyIf b (1 - o)) where
-  raised-fits : v + onlyIf b (1 - v / 2 ^ k % 2) * 2 ^ k < 256
-  raised-fits = go b
-    where
-      go : (b : Bool) → v + onlyIf b (1 - v / 2 ^ k % 2) * 2 ^ k < 256
-      go true = raise-fits v k small h
-      go false = rw (zero-mul, add-zero) small
+-- an odd number has its lowest bit set
+or-one : (q : ℕ) → bitOr q 1 ≡ q + (1 - q % 2)
+or-one q = or-step q 1 ∙ rw (or-zero-r (q / 2)) (omega arith)
 
-  pub sum-is : v + x * 2 ^ k % 256 ≡ v + onlyIf b (1 - v / 2 ^ k % 2) * 2 ^ k
-  sum-is =
-      let l : onlyIf b (1 - v / 2 ^ k % 2) * 2 ^ k < 256 = omega (arith, raised-fits) in
-      rw (more, old, mod-eq-of-lt l)
+-- to set a bit is to add it where it is not set
+or-raises : (v k : ℕ) → bitOr v (2 ^ k) ≡ raise v (2 ^ k)
+or-raises v k =
+    let e : bitOr (v / 2 ^ k * 2 ^ k + v % 2 ^ k) (1 * 2 ^ k + 0) ≡ bitOr (v / 2 ^ k) 1 * 2 ^ k + bitOr (v % 2 ^ k) 0 = or-block k (v / 2 ^ k) 1 (v % 2 ^ k) 0 (mod-lt v (pow-pos k)) (pow-pos k) in
+    let one : 1 * 2 ^ k + 0 ≡ 2 ^ k = omega arith in
+    ap₂ bitOr (sym (split v k)) (sym one) ∙ e ∙ rw (or-one (v / 2 ^ k), or-zero-r (v % 2 ^ k), add-mul (v / 2 ^ k) (1 - v / 2 ^ k % 2) (2 ^ k)) (omega (arith, split v k))
 
-  pub sum-fits : v + x * 2 ^ k % 256 < 256
-  sum-fits = rw sum-is raised-fits
+-- what `raised` gives
+pub raised-is : (v k : ℕ) (b : Bool) → k < 8 → bitOr v (boolByte b * 2 ^ k % 256) ≡ v + onlyIf b (1 - v / 2 ^ k % 2) * 2 ^ k
+raised-is v k true h = rw (one-mul, mod-eq-of-lt (pow-lt h)) (or-raises v k)
+raised-is v k false h = rw (zero-mul, add-zero) (or-zero-r v)
 
 -- the byte that is stored, and nothing behind the end
 pub stored : (s : List ℕ) (i : ℕ) (b : Bool) {x : ℕ} → x ≡ at s (i / 8) + onlyIf b (1 - at s (i / 8) / 2 ^ (i % 8) % 2) * 2 ^ (i % 8) → set s (i / 8) x ≡ withBitIf s i b
