@@ -6,6 +6,7 @@ use mathlib.Core.List.{List, []}
 use native.Mathlib.Nat.{add-zero}
 use native.Mathlib.Omega.{arith}
 use borrow.Author.Tests.{lt-ltb, le-ltb, ltb-false}
+use lib.Dec.{ltb}
 use lib.ListN.{length, take, drop, length-take, length-drop}
 use lib.Seq.{drop-drop, length-take-le}
 use Rattle.rules.specs.Outcome.{Outcome, good, bad, SHORT, LARGE, PACKAGE, COUNT}
@@ -25,7 +26,7 @@ use Rattle.refusal.specs.declared.Why.the-variants as why
 use Rattle.message.proofs.Checks.{no-numbers}
 use Rattle.message.proofs.Headers.{run-behind, run-inside, header-sound, Headed, short-run, same-checks, headed}
 use Rattle.message.proofs.Messages.{by-bytes, framing, here}
-use Rattle.message.specs.Answers.{testedIn, headOf, noHeader, headerOf, eightAndNine, headOfHeader, toldHeader, Opened, spotBehindRun, toldMessage, checkedRun, frontRun, headerIn, frontAt, payloadFrom, nextFrom}
+use Rattle.message.specs.Answers.{testedIn, headOf, withRun, noHeader, headerOf, eightAndNine, headOfHeader, toldHeader, Opened, spotBehindRun, toldMessage, checkedRun, frontRun, headerIn, frontAt, payloadFrom, nextFrom}
 use Rattle.message.specs.declared.Tested.{Tested}
 use Rattle.message.specs.declared.Header.{Header}
 use Rattle.message.specs.declared.HeaderRead.the-variants as headerRead
@@ -220,9 +221,12 @@ module _ (p : ℕ) (s : List ℕ) (h : Head) where
 -- ---- for a caller that walks over the packages itself
 
 -- a message that is refused by checks 1 to 9
-pub front-refused : (s : List ℕ) (k : ℕ) (f : Refusal) → toldHeader (headerRead.Refused f) ≡ frontAt s k → toldMessage (messageRead.Refused f) ≡ messageAt s k
+pub front-stopped : (s : List ℕ) (k : ℕ) {n q : ℕ} → bad n q ≡ frontAt s k → bad n q ≡ messageAt s k
 unfolding frontAt messageAt
-front-refused s k f e = sym (refused-alike _ _ _ _ _ (λ z. stop _ _ (not-nine-not-every k (drop k s) (head (drop k s)) (refused-only _ _ z))) (sym e))
+front-stopped s k e = sym (refused-alike _ _ _ _ _ (λ z. stop _ _ (not-nine-not-every k (drop k s) (head (drop k s)) (refused-only _ _ z))) (sym e))
+
+pub front-refused : (s : List ℕ) (k : ℕ) (f : Refusal) → toldHeader (headerRead.Refused f) ≡ frontAt s k → toldMessage (messageRead.Refused f) ≡ messageAt s k
+front-refused s k f e = front-stopped s k e
 
 -- one that passes them
 pub record Known (s : List ℕ) (k : ℕ) (h : Header) : Type 0 where
@@ -319,9 +323,9 @@ module _ (s : List ℕ) (k : ℕ) (h : Header) where
           (step _ _ (every k t (head t) (h .run) (f .nine) cs cut-there (rw options-are at x))
           (ap (λ (y : Head). good (messageSpot k y (h .run, cs))) (sym (f .same)))))
 
-    told-package : (i : ℕ) → cut 0 lent ≡ bad PACKAGE i → bad PACKAGE (payloadFrom k h + i) ≡ messageAt s k
-    told-package i e =
-        let c : cut (payloadFrom k h) (payload t (head t)) ≡ bad PACKAGE (payloadFrom k h + i) = cut-bad (payloadFrom k h) (payload t (head t)) (rw lent-is at e) in
+    told-package : {n : ℕ} (i : ℕ) → cut 0 lent ≡ bad n i → bad n (payloadFrom k h + i) ≡ messageAt s k
+    told-package {n} i e =
+        let c : cut (payloadFrom k h) (payload t (head t)) ≡ bad n (payloadFrom k h + i) = cut-bad (payloadFrom k h) (payload t (head t)) (rw lent-is at e) in
         told-bad (uncut k t (head t) (h .run) (f .nine) (rw payload-at c))
 
   module _ (e : toldHeader (headerRead.Header h) ≡ frontAt s k) where
@@ -329,6 +333,9 @@ module _ (s : List ℕ) (k : ℕ) (h : Header) where
     fronted = in-order (known s k h e)
 
     -- one of its packages does not keep the rules
+    pub front-uncut : {n i : ℕ} → cut 0 (take (nextFrom k h - payloadFrom k h) (drop (payloadFrom k h) s)) ≡ bad n i → bad n (payloadFrom k h + i) ≡ messageAt s k
+    front-uncut {i = i} c = told-package (known s k h e) i c
+
     pub front-package : (i : ℕ) → cut 0 (take (nextFrom k h - payloadFrom k h) (drop (payloadFrom k h) s)) ≡ bad PACKAGE i
         → toldMessage (messageRead.Refused (record { why = why.Package; place = payloadFrom k h + i })) ≡ messageAt s k
     front-package i c = told-package (known s k h e) i c
@@ -343,3 +350,45 @@ module _ (s : List ℕ) (k : ℕ) (h : Header) where
       pub front-message : differs (countSaid (take (k + 24 + h .run - (k + 24)) (drop (k + 24) s))) (length cs) ≡ false
           → toldMessage (messageRead.Message (record { header = h; payload = payloadFrom k h; next = nextFrom k h; packages = length cs })) ≡ messageAt s k
       front-message x = told-good (known s k h e) cs c x
+
+-- ---- for a caller that needs nothing of the option run
+
+module _ (s : List ℕ) (k n : ℕ) (e : good n ≡ frontRun s k) where
+  -- the numbers that are read are the message's, whatever is said of its option run
+  pub numbers-there : (m : ℕ) → headOfHeader (headerIn s k m) ≡ head (drop k s)
+  unfolding headerIn headerOf
+  numbers-there m = go (ltb (length (drop k s)) 24) ∙ its s k n (headerIn s k n) e refl .same
+    where
+      go : (b : Bool) → headOfHeader (elim b [ true ↦ noHeader | false ↦ withRun (head (drop k s)) m ]) ≡ headOfHeader (elim b [ true ↦ noHeader | false ↦ withRun (head (drop k s)) n ])
+      go true = refl
+      go false = refl
+
+  no-run : headerIn s k 0 .run ≡ 0
+  unfolding headerIn headerOf
+  no-run = go (ltb (length (drop k s)) 24)
+    where
+      runOf : Header → ℕ
+      runOf h = h .run
+
+      go : (b : Bool) → runOf (elim b [ true ↦ noHeader | false ↦ withRun (head (drop k s)) 0 ]) ≡ 0
+      go true = refl
+      go false = refl
+
+  -- nor does its place depend on it
+  pub fronted-alone : Fronted s k (headerIn s k 0)
+  fronted-alone =
+      let f = fronted s k (headerIn s k n) (front-good s k n (headerIn s k n) e refl) in
+      let same : headOfHeader (headerIn s k 0) ≡ headOfHeader (headerIn s k n) = numbers-there 0 ∙ sym (numbers-there n) in
+      let words : headerIn s k 0 .words ≡ headerIn s k n .words = ap (λ (x : Head). x .words) same in
+      let size : headerIn s k 0 .length ≡ headerIn s k n .length = ap (λ (x : Head). x .size) same in
+      let long : length (take (nextFrom k (headerIn s k 0) - payloadFrom k (headerIn s k 0)) (drop (payloadFrom k (headerIn s k 0)) s)) ≡ nextFrom k (headerIn s k 0) - payloadFrom k (headerIn s k 0) = rw (words, size) (f .long) in
+      record {
+        whole = f .whole;
+        within = omega (arith, size, f .within);
+        forth = omega (arith, words, size, f .forth);
+        behind = omega arith;
+        on = omega (arith, size, f .on);
+        run = omega (arith, no-run);
+        long = long;
+        small = omega (arith, long, size, f .within, f .whole);
+      }

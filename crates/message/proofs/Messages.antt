@@ -21,7 +21,7 @@ use Rattle.rules.proofs.Loops.{Doing, doing-start, doing-next, doing-end, doing
 use Rattle.rules.proofs.Cut as Cut
 use Rattle.message.proofs.Tests.{is, isnt}
 use Rattle.message.proofs.Headers.{Headed}
-use Rattle.message.specs.Answers.{headOfHeader, oneIfBytes, eightAndNine, Opened, cutCount, spotBehindRun, messageHere}
+use Rattle.message.specs.Answers.{headOfHeader, oneIfBytes, eightAndNine, Opened, cutCount, spotBehindRun, spanOf, messageHere}
 use Rattle.rules.specs.Reading.{MessageSpot, messageSpot, messageAt}
 use Rattle.message.specs.declared.Header.{Header}
 
@@ -98,6 +98,16 @@ module _ (p : ℕ) (s : List ℕ) (r : Header) (o : Opened s r p) where
           let (cs, g, d) = stepped _ _ (sym (rw (ef, ez) at e)) in
           let w : length cs ≡ k = good-inj d in
           sym (after _ _ fit (step _ _ g (pass _ _ _ _ (rw w x) (rw (w, ef, ez)))))
+
+-- ---- the span of a message
+
+pub span-bad : {n q : ℕ} {o : Outcome MessageSpot} → bad n q ≡ o → bad n q ≡ spanOf o
+unfolding spanOf
+span-bad e = sym (stop _ _ (sym e))
+
+pub span-good : {d : MessageSpot} {o : Outcome MessageSpot} → good d ≡ o → good (d .next, d .packages) ≡ spanOf o
+unfolding spanOf
+span-good e = sym (step _ _ (sym e) refl)
 
 -- ---- every check
 
@@ -197,12 +207,12 @@ pub start : (s : List ℕ) → Checking s 0 0 0
 unfolding packagesOf
 start s = record { done = []; many = refl; packs = refl; few = omega arith; inside = omega arith; doing = doing-start message s }
 
-pub record Onward (s : List ℕ) (i m n : ℕ) (d : MessageSpot) : Type 0 where
-  pub less : i < d .next
-  pub checking : Checking s (d .next) (m + 1) (n + d .packages)
+pub record Onward (s : List ℕ) (i m n next packages : ℕ) : Type 0 where
+  pub less : i < next
+  pub checking : Checking s next (m + 1) (n + packages)
 
 module _ (s : List ℕ) (i m n : ℕ) (c : Checking s i m n) where
-  behind-one : (d : MessageSpot) → i < length s → Reads i (drop i s) d → Onward s i m n d
+  behind-one : (d : MessageSpot) → i < length s → Reads i (drop i s) d → Onward s i m n (d .next) (d .packages)
   behind-one d l r =
       let x = r .record′ in
       record {
@@ -218,12 +228,17 @@ module _ (s : List ℕ) (i m n : ℕ) (c : Checking s i m n) where
       }
 
   module _ (a : length s ≤ 65536) where
-    pub next : (d : MessageSpot) → i < length s → good d ≡ messageAt s i → Onward s i m n d
-    next d l e = behind-one d l (reading i (drop i s) d (sym (there s i a e)))
+    pub next : {b k : ℕ} → i < length s → good (b, k) ≡ spanOf (messageAt s i) → Onward s i m n b k
+    unfolding spanOf
+    next {b} {k} l e =
+        let (d, g, f) = stepped _ _ (sym e) in
+        subst (λ (x : ℕ × ℕ). Onward s i m n (x .0) (x .1)) (good-inj f) (behind-one d l (reading i (drop i s) d (sym (there s i a (sym g)))))
 
-    pub stopped : {k q : ℕ} → i < length s → bad k q ≡ messageAt s i → bad k q ≡ checkedRecording s
-    unfolding checkedRecording recording
-    stopped l e = sym (stop _ _ (pass _ _ _ _ (le-ltb 65536 (length s) a) (doing-bad message s (c .done) i (c .doing) l (no-record i (drop i s) (sym (there s i a e))))))
+    pub stopped : {k q : ℕ} → i < length s → bad k q ≡ spanOf (messageAt s i) → bad k q ≡ checkedRecording s
+    unfolding checkedRecording recording spanOf
+    stopped l e =
+        let g = refused-only _ _ (sym e) in
+        sym (stop _ _ (pass _ _ _ _ (le-ltb 65536 (length s) a) (doing-bad message s (c .done) i (c .doing) l (no-record i (drop i s) (sym (there s i a (sym g)))))))
 
     pub ended : length s ≤ i → good (m, n) ≡ checkedRecording s
     unfolding checkedRecording recording

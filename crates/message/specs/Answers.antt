@@ -36,6 +36,8 @@ use Rattle.message.specs.declared.PackageRead.{PackageRead}
 use Rattle.message.specs.declared.PackageRead.the-variants as packageRead
 use Rattle.message.specs.declared.MessageRead.{MessageRead}
 use Rattle.message.specs.declared.MessageRead.the-variants as messageRead
+use Rattle.message.specs.declared.Span.{Span}
+use Rattle.message.specs.declared.Span.the-variants as span
 use Rattle.message.specs.declared.Checked.{Checked}
 use Rattle.message.specs.declared.Checked.the-variants as checked
 
@@ -227,6 +229,16 @@ noMessage = record { head = noHead; run = 0; payload = 0; next = 0; packages = 0
 abbrev pub messageNumbers : MessageRead → Told MessageSpot
 messageNumbers (messageRead.Message m) = record { number = 0; place = 0; values = spotOfMessage m }
 messageNumbers (messageRead.Refused r) = record { number = numberOf (r .why); place = r .place; values = noMessage }
+
+-- where a message ends, and how many packages it holds
+unfoldable pub spanOf : Outcome MessageSpot → Outcome (ℕ × ℕ)
+spanOf o = do
+  m ← o
+  good (m .next, m .packages)
+
+abbrev pub toldSpan : Span → Outcome (ℕ × ℕ)
+toldSpan (span.Message next packages) = good (next, packages)
+toldSpan (span.Refused r) = refused r
 
 -- ---- a message in a recording, its packages not looked at
 
