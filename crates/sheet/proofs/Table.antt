@@ -197,6 +197,10 @@ module _ (p t : ℕ) (near : List ℕ) where
     pub ask-end : length near - i < 4 → yes ≡ nearGrants p t near
     ask-end h = sym (inv .is ∙ rw (few-grant p t (drop i near) (omega (arith, length-drop i near))) (or-false yes))
 
+  -- a near row alone
+  pub ask-one : length near ≡ 4 → within p t (getD near 0 0) (getD near 1 0) (getD near 2 0) (getD near 3 0) ≡ nearGrants p t near
+  ask-one h = ask-end _ 4 (ask-next false 0 ask-start (omega arith)) (omega arith)
+
   -- a search that ends at the first near row that grants
   module _ (i : ℕ) (inv : Asked p t near false i) (h : 4 ≤ length near - i) where
     abbrev grantsIt : Bool
