@@ -75,11 +75,14 @@ module _ (recordingBytes : List ℕ) (k : ℕ) where
       }
 
   -- a message that is refused
-  pub no-message : length recordingBytes ≤ 65536 → (f : Refusal) → toldMessage (M.Refused f) ≡ messageAt recordingBytes k → message k (drop k recordingBytes) ≡ bad (numberOf (f .why)) (f .place)
+  pub no-message-there : length recordingBytes ≤ 65536 → {n q : ℕ} → bad n q ≡ messageAt recordingBytes k → message k (drop k recordingBytes) ≡ bad n q
   unfolding messageAt messageHere message
-  no-message l f e =
+  no-message-there l e =
       let q = sym (pass _ _ _ _ (le-ltb 65536 (length recordingBytes) l) refl) ∙ sym e in
       stop _ _ (refused-only _ _ q)
+
+  pub no-message : length recordingBytes ≤ 65536 → (f : Refusal) → toldMessage (M.Refused f) ≡ messageAt recordingBytes k → message k (drop k recordingBytes) ≡ bad (numberOf (f .why)) (f .place)
+  no-message l f e = no-message-there l e
 
 -- what a grant depends on
 module _ (m m′ : messages.Message) (f : m .flags ≡ m′ .flags) (i : m .id ≡ m′ .id) (s : m .seconds ≡ m′ .seconds) (n : m .nanos ≡ m′ .nanos) where

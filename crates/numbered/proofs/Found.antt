@@ -4,17 +4,21 @@ use mathlib.Core.Path.{_≡_, refl, sym, ap, _∙_}
 use mathlib.Core.Bool.{Bool, true, false}
 use mathlib.Core.List.{List, [], _∷_}
 use mathlib.Core.Option.{Option, none, some}
+use native.Mathlib.Nat.{add-zero}
 use native.Mathlib.Omega.{arith}
 use lib.Dec.{leb}
 use lib.ListN.{length, take, drop, length-drop}
 use lib.Seq.{take-take, drop-drop, length-take-le}
 use borrow.Author.Tests.{lt-leb, not-false, le-ltb}
 use Rattle.rules.specs.Outcome.{Outcome, good, bad, _>>=_}
-use Rattle.rules.specs.Bytes.{at, half, word, pad, part}
+use Rattle.rules.specs.Bytes.{Bytes, half, word, pad, part}
 use Rattle.rules.specs.Packages.{piece, packageOf, pieceOf, Piece}
 use Rattle.rules.proofs.Outcomes.{pass, passed, stepped, good-inj, some-inj, none≢some, refused-only}
 use Rattle.rules.proofs.Cut.{Fit, fit, piece-of}
+use Rattle.rules.specs.Clean.{cleanPiece}
 use Rattle.rules.proofs.Pieces.{length-padded}
+use Rattle.rules.proofs.Numbers.{bytes-drop, bytes-take}
+use Rattle.rules.proofs.Cleaned.{piece-clean}
 use Rattle.refusal.specs.declared.Refusal.{Refusal}
 use Rattle.refusal.specs.Numbers.{numberOf}
 use Rattle.message.specs.declared.Package.{Package}
@@ -106,21 +110,9 @@ module _ (run : List ℕ) (k : ℕ) (p : Package) (f : Found run k p) where
   unfolding packageSpot
   id-is = ap (λ (x : PackageSpot). x .id) (f .spot)
 
-  length-is : half (f .c) 4 ≡ p .length
-  unfolding packageSpot
-  length-is = ap (λ (x : PackageSpot). x .size) (f .spot)
-
-  status-is : at (f .c) 7 ≡ p .status
-  unfolding packageSpot
-  status-is = ap (λ (x : PackageSpot). x .status) (f .spot)
-
   pub delta-is : word (f .c) 8 ≡ p .delta
   unfolding packageSpot
   delta-is = ap (λ (x : PackageSpot). x .delta) (f .spot)
-
-  from-is : k + 12 ≡ p .from
-  unfolding packageSpot
-  from-is = ap (λ (x : PackageSpot). x .from) (f .spot)
 
   to-is : k + half (f .c) 4 ≡ p .to
   unfolding packageSpot
@@ -144,32 +136,33 @@ module _ (run : List ℕ) (k : ℕ) (p : Package) (f : Found run k p) where
 
   pub placed : length run ≤ 65536 → Placed run k p
   placed l = record {
-    front = omega (arith, from-is);
-    content = omega (arith, from-is, to-is, is-piece .least);
+    front = omega (arith, to-is, is-piece .least);
     padding = omega (arith, to-is, next-is, piece-size);
     little = omega (arith, to-is, next-is, piece-size);
     inside = still;
     short = l;
   }
 
-  content-is : part (p .from) (p .from + (p .to - p .from)) run ≡ part 12 (half (f .c) 4) (f .c)
-  content-is =
-      let m : p .from + (p .to - p .from) - p .from ≡ half (f .c) 4 - 12 = omega (arith, from-is, to-is, is-piece .least) in
-      let d : drop (p .from) run ≡ drop 12 t = rw (← from-is, drop-drop) in
-      let z : half (f .c) 4 - 12 ≤ pad (half t 4) - 12 = omega (arith, is-taken .size, piece-size) in
-      rw (m, d) (sym (ap (λ (s : List ℕ). take (half (f .c) 4 - 12) (drop 12 s)) (is-taken .bytes)
-      ∙ take-drop-take 12 (half (f .c) 4 - 12) (pad (half t 4)) t (omega (arith, is-taken .size, piece-size, is-piece .least))))
-
   content-size : 12 + length (part 12 (half (f .c) 4) (f .c)) ≡ half (f .c) 4
   content-size =
       omega (arith, length-take-le (half (f .c) 4 - 12) (drop 12 (f .c)) (omega (arith, length-drop 12 (f .c), is-piece .least, is-piece .whole)), is-piece .least)
 
-  pub piece-is : pieceAs run p ≡ pieceOf (packageOf (f .c))
-  unfolding pieceAs pieceOf packageOf
-  piece-is =
-      let l : 12 + length (part 12 (half (f .c) 4) (f .c)) ≡ half (f .c) 4 = content-size in
-      let z : p .next - p .to ≡ pad (length (part 12 (half (f .c) 4) (f .c))) - length (part 12 (half (f .c) 4) (f .c)) = omega (arith, next-is, to-is, piece-size) in
-      rw (content-is, z, l, ← id-is, ← length-is, ← status-is, ← delta-is)
+  -- a part of the piece, as it stands in the run
+  part-there : (a e : ℕ) → a ≤ e → e ≤ f .n → part (k + a) (k + e) run ≡ part a e (f .c)
+  part-there a e h l =
+      let n : k + e - (k + a) ≡ e - a = omega arith in
+      rw (n, ← drop-drop a k run)
+      (sym (ap (λ (s : List ℕ). take (e - a) (drop a s)) (is-taken .bytes) ∙ take-drop-take a (e - a) (pad (half t 4)) t (omega (arith, is-taken .size))))
+
+  -- its bytes, reserved byte and padding zero, are those that its numbers are written as
+  pub piece-is : Bytes run → pieceAs run k p ≡ pieceOf (packageOf (f .c))
+  unfolding pieceAs cleanPiece
+  piece-is y =
+      let c : Bytes (f .c) = rw (is-taken .bytes) (bytes-take (pad (half t 4)) t (bytes-drop k run y)) in
+      let z : p .next - p .to ≡ length (f .c) - half (f .c) 4 = omega (arith, next-is, to-is, piece-size, is-piece .whole) in
+      let a : part k (k + 6) run ≡ part 0 6 (f .c) = rw add-zero at (part-there 0 6 (omega arith) (omega (arith, least))) in
+      let b : part (k + 7) (p .to) run ≡ part 7 (half (f .c) 4) (f .c) = rw to-is at (part-there 7 (half (f .c) 4) (omega (arith, is-piece .least)) (omega (arith, piece-size))) in
+      rw (a, b, z) (sym (piece-clean (f .c) is-piece c))
 
   pub piece-length : length (pieceOf (packageOf (f .c))) ≡ f .n
   unfolding pieceOf packageOf

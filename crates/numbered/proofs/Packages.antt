@@ -12,7 +12,7 @@ use lib.Dec.{ltb, eqb}
 use lib.Seq.{sets}
 use borrow.Author.Tests.{ltb-true, ltb-false}
 use Rattle.rules.specs.Outcome.{good, bad, PACKAGE}
-use Rattle.rules.specs.Bytes.{pad}
+use Rattle.rules.specs.Bytes.{Bytes, pad}
 use Rattle.rules.specs.Packages as rules
 use Rattle.rules.specs.Packages.{packageLength, packageFits, piece, cut, packageOf, pieceOf, packageTime}
 use Rattle.rules.specs.Options.{countSaid, differs}
@@ -312,9 +312,9 @@ module _ (marks : List ℕ) (first : ℕ) (run before : List ℕ) (to : ℕ) whe
             ∙ ap (λ (n : ℕ). grow (eqb (bitAt marks (first + n)) 1) (picked marks first (inv .keeping .done)) (packageOf (f′ .c))) (sym (inv .many))
             ∙ ap (λ (x : Bool). grow x (picked marks first (inv .keeping .done)) (packageOf (f′ .c))) (sym g))
 
-        pub store-next : (b : Bool) → b ≡ eqb (bitAt marks (first + all)) 1 → (out : List ℕ) (r : ℕ)
-            → Stored after out end r b (pieceAs run p) (p .next - k) → Storing out r (all + 1) (p .next)
-        store-next true g out r w = record {
+        pub store-next : Bytes run → (b : Bool) → b ≡ eqb (bitAt marks (first + all)) 1 → (out : List ℕ) (r : ℕ)
+            → Stored after out end r b (pieceAs run k p) (p .next - k) → Storing out r (all + 1) (p .next)
+        store-next y true g out r w = record {
           ps = inv .ps ++ (packageOf (f′ .c) ∷ []);
           keeping = keeps′ true g;
           least = omega (arith, inv .least, w .behind);
@@ -322,9 +322,9 @@ module _ (marks : List ℕ) (first : ℕ) (run before : List ℕ) (to : ℕ) whe
           many = omega (arith, inv .many, length-append (inv .keeping .done) (f′ .c ∷ []));
           few = omega (arith, inv .few, on run k p f′);
           ends = rw payload-more (omega (arith, inv .ends, w .behind, next-is run k p f′, piece-length run k p f′, length-append (payloadOf (inv .ps)) (pieceOf (packageOf (f′ .c)))));
-          stored = rw (payload-more, w .bytes, piece-is run k p f′, inv .stored, inv .ends) (sets-sets (payloadOf (inv .ps)) (pieceOf (packageOf (f′ .c))) before to);
+          stored = rw (payload-more, w .bytes, piece-is run k p f′ y, inv .stored, inv .ends) (sets-sets (payloadOf (inv .ps)) (pieceOf (packageOf (f′ .c))) before to);
         }
-        store-next false g out r w = record {
+        store-next y false g out r w = record {
           ps = inv .ps;
           keeping = keeps′ false g;
           least = omega (arith, inv .least, w .behind);

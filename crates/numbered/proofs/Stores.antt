@@ -2,15 +2,15 @@
 use Prim.Native.Nat.{ℕ, suc, _+_, _-_, _*_, _/_, _%_, _≤_, _<_}
 use mathlib.Core.Path.{_≡_, refl, sym, ap, _∙_}
 use mathlib.Core.Bool.{Bool, true, false}
-use mathlib.Core.List.{List, [], _∷_, _++_}
-use native.Mathlib.Nat.{add-zero, add-suc, suc-add, div-div-eq-div-mul}
+use mathlib.Core.List.{List, [], _∷_, _++_, append-assoc}
+use native.Mathlib.Nat.{add-zero, add-suc, suc-add}
 use native.Mathlib.Numerals.{add-one}
 use native.Mathlib.Omega.{arith}
 use borrow.Author.Tests.{eqb-true, eqb-false}
 use lib.Dec.{eqb}
 use lib.ListN.{length, getD, take, drop, set, replicate, length-drop, length-replicate, replicate-append-replicate}
-use lib.Seq.{sets, set-set, set-comm, take-suc, length-take-le}
-use Rattle.rules.specs.Bytes.{put16, put32, part}
+use lib.Seq.{sets, set-set, set-comm, take-suc, take-add, drop-drop, drop-cons, length-take-le}
+use Rattle.rules.specs.Bytes.{put32, part}
 use Rattle.rules.proofs.Loops.{sets-sets, set-before}
 use Rattle.message.specs.declared.Header.{Header}
 use Rattle.message.specs.declared.Package.{Package}
@@ -58,51 +58,58 @@ put-next b l at i d h =
 pub words-all : (b : List ℕ) (at x y : ℕ) {b1 b2 : List ℕ} → b1 ≡ sets b at (put32 x []) → b2 ≡ sets b1 (at + 4) (put32 y []) → b2 ≡ sets b at (put32 x (put32 y []))
 words-all b at x y e1 e2 = rw (e2, e1, sets-sets (put32 x []) (put32 y []) b at)
 
--- a package's length, a zero and its status as one word
-length-status : (l s : ℕ) (t : List ℕ) → l < 65536 → s < 256 → put32 (l * 65536 + s) t ≡ put16 l (0 ∷ s ∷ t)
-length-status l s t a b =
-    let w = l * 65536 + s in
-    let q : w / 65536 ≡ l = omega arith in
-    let d : w / 65536 / 256 ≡ w / 16777216 = div-div-eq-div-mul w 65536 256 in
-    let e : w / 16777216 ≡ l / 256 = omega arith in
-    let f : w / 256 % 256 ≡ 0 = omega arith in
-    let g : w % 256 ≡ s = omega arith in
-    rw (e, q, f, g)
+-- a number among those that are stored is stored anew
+stored-anew : (xs ys b : List ℕ) (i y z : ℕ) → set (sets b i (xs ++ (y ∷ ys))) (i + length xs) z ≡ sets b i (xs ++ (z ∷ ys))
+stored-anew xs ys b i y z =
+    let j = i + length xs in
+    let c = sets b i xs in
+    ap (λ (l : List ℕ). set l j z) (sym (sets-sets xs (y ∷ ys) b i)) ∙ set-before ys (set c j y) (suc j) j z (omega arith)
+    ∙ ap (λ (l : List ℕ). sets l (suc j) ys) (set-set c j y z) ∙ sets-sets xs (z ∷ ys) b i
 
--- the stores of a package: its last word is zero first, and the data go over what is not padding
-module _ (run : List ℕ) (p : Package) (b : List ℕ) (at : ℕ) (in-place : Placed run 0 p) (half : p .length < 65536) (byte : p .status < 256) {b1 b2 b3 b4 : List ℕ}
-    (e1 : b1 ≡ sets b (at + 8 + (p .next - p .from)) (put32 0 []))
-    (e2 : b2 ≡ sets b1 at (put32 (p .id .0) (put32 (p .length * 65536 + p .status) []))) (e3 : b3 ≡ sets b2 (at + 8) (put32 (p .delta) []))
-    (e4 : b4 ≡ sets b3 (at + 12) (part (p .from) (p .from + (p .to - p .from)) run)) where
-  abbrev content : List ℕ
-  content = part (p .from) (p .from + (p .to - p .from)) run
+-- the stores of a package: its last word is zero first, its own bytes go over what is not padding, and its reserved byte is zero then
+module _ (run : List ℕ) (k : ℕ) (p : Package) (b : List ℕ) (at : ℕ) (in-place : Placed run k p) {b1 b2 b3 : List ℕ}
+    (e1 : b1 ≡ sets b (at + (p .next - k - 4)) (put32 0 [])) (e2 : b2 ≡ sets b1 at (part k (k + (p .to - k)) run)) (e3 : b3 ≡ sets b2 (at + 6) (0 ∷ [])) where
+  abbrev own : List ℕ
+  own = part k (k + (p .to - k)) run
+
+  abbrev six : List ℕ
+  six = part k (k + 6) run
+
+  abbrev seventh : ℕ
+  seventh = getD run (k + 6) 0
+
+  abbrev tail : List ℕ
+  tail = part (k + 7) (p .to) run
 
   abbrev zeros : List ℕ
   zeros = replicate (p .next - p .to) 0
 
-  -- what is stored before the content, with t behind it
-  abbrev front : List ℕ → List ℕ
-  front t = put32 (p .id .0) (put32 (p .length * 65536 + p .status) (put32 (p .delta) t))
+  length-own : length own ≡ p .to - k
+  length-own =
+      let n : k + (p .to - k) - k ≡ p .to - k = omega arith in
+      rw n (length-take-le (p .to - k) (drop k run) (omega (arith, length-drop k run, in-place .front, in-place .padding, in-place .inside)))
 
-  length-content : p .to - p .from ≡ length content
-  length-content =
-      let n : p .from + (p .to - p .from) - p .from ≡ p .to - p .from = omega arith in
-      sym (rw n (length-take-le (p .to - p .from) (drop (p .from) run) (omega (arith, length-drop (p .from) run, in-place .padding, in-place .inside))))
+  length-six : length six ≡ 6
+  length-six =
+      let n : k + 6 - k ≡ 6 = omega arith in
+      rw n (length-take-le 6 (drop k run) (omega (arith, length-drop k run, in-place .front, in-place .padding, in-place .inside)))
 
-  stored : b4 ≡ sets b at (front (content ++ zeros))
-  stored =
-      e4 ∙ rw (
-        e3,
-        e2,
-        sets-sets (put32 (p .id .0) (put32 (p .length * 65536 + p .status) [])) (put32 (p .delta) []) b1 at,
-        sets-sets (front []) content b1 at,
-        e1,
-      ) (zeros-left (front content) b at (at + 8 + (p .next - p .from)) (p .next - p .to) (omega (arith, in-place .little)) (omega arith)
-      (omega (arith, length-content, in-place .content, in-place .padding)))
+  own-is : own ≡ six ++ (seventh ∷ tail)
+  own-is =
+      let n : k + (p .to - k) - k ≡ 6 + suc (p .to - (k + 7)) = omega (arith, in-place .front) in
+      let m : k + 6 - k ≡ 6 = omega arith in
+      let o : suc (k + 6) ≡ k + 7 = omega arith in
+      rw (n, m, take-add 6 (suc (p .to - (k + 7))) (drop k run), drop-drop 6 k run)
+      (ap (λ (l : List ℕ). take 6 (drop k run) ++ take (suc (p .to - (k + 7))) l)
+      (drop-cons run (k + 6) 0 (omega (arith, in-place .front, in-place .padding, in-place .inside))) ∙ rw o)
 
-  pub package-all : b4 ≡ sets b at (pieceAs run p)
+  pub package-all : b3 ≡ sets b at (pieceAs run k p)
   unfolding pieceAs
-  package-all = stored ∙ ap (λ (t : List ℕ). sets b at (put32 (p .id .0) t)) (length-status (p .length) (p .status) (put32 (p .delta) (content ++ zeros)) half byte)
+  package-all =
+      let padded : b2 ≡ sets b at (own ++ zeros) = e2 ∙ rw e1 (zeros-left own b at (at + (p .next - k - 4)) (p .next - p .to) (omega (arith, in-place .little)) (omega arith) (omega (arith, length-own, in-place .front, in-place .padding))) in
+      let split : b2 ≡ sets b at (six ++ (seventh ∷ tail ++ zeros)) = padded ∙ ap (λ (l : List ℕ). sets b at (l ++ zeros)) own-is ∙ ap (sets b at) (append-assoc six (seventh ∷ tail) zeros) in
+      e3 ∙ ap (λ (l : List ℕ). set l (at + 6) 0) split ∙ ap (λ (n : ℕ). set (sets b at (six ++ (seventh ∷ tail ++ zeros))) (at + n) 0) (sym length-six)
+      ∙ stored-anew six (tail ++ zeros) b at seventh 0 ∙ ap (sets b at) (sym (append-assoc six (0 ∷ tail) zeros))
 
 -- a header's first byte, two zeros and its flags as one word
 front-flags : (f : ℕ) (t : List ℕ) → f < 256 → put32 (268435456 + f) t ≡ 16 ∷ 0 ∷ 0 ∷ f ∷ t

@@ -1,6 +1,6 @@
 -- Writing the copy of a recording, numbered on: what the loop keeps.
 use Prim.Native.Nat.{ℕ, _+_, _-_, _≤_, _<_}
-use mathlib.Core.Path.{_≡_, refl, sym, ap, _∙_}
+use mathlib.Core.Path.{_≡_, refl, sym, ap, subst, _∙_}
 use mathlib.Core.Logic.{⊎-elim}
 use mathlib.Core.Bool.{Bool}
 use mathlib.Core.List.{List, [], _∷_, _++_, map, append-nil, append-assoc}
@@ -18,12 +18,10 @@ use Rattle.rules.specs.Copy.{Entry, withEntryOf, released}
 use Rattle.rules.proofs.Outcomes.{stop, passed, good-inj, good≢bad}
 use Rattle.rules.proofs.Growing.{released-append}
 use Rattle.rules.proofs.Loops.{Doing, doing-start, doing-end, doing-bad, sets-sets, done-part}
-use Rattle.refusal.specs.declared.Refusal.{Refusal}
 use Rattle.message.specs.declared.Message.{Message}
 use Rattle.message.specs.declared.Header.{Header}
-use Rattle.message.specs.declared.HeaderRead.the-variants as header
-use Rattle.message.specs.Answers.{toldHeader, frontAt, payloadFrom, nextFrom}
-use Rattle.message.proofs.Fronts.{front-refused, known}
+use Rattle.message.specs.Answers.{headOfHeader, frontRun, headerIn, payloadFrom, nextFrom}
+use Rattle.message.proofs.Fronts.{front-bad, front-stopped, Fronted, numbers-there, fronted-alone}
 use Rattle.wire.specs.Bits.{withBit}
 use Rattle.numbered.specs.declared.Kept.{Kept}
 use Rattle.numbered.specs.declared.Reached.{Reached}
@@ -35,17 +33,17 @@ use Rattle.numbered.proofs.Numbers.{after-append}
 use Rattle.numbered.proofs.States.{beside-ids, beside-next, beside-length, sets-same}
 use Rattle.numbered.proofs.Ids.{after-length}
 use Rattle.numbered.proofs.Held.{Holds, ids-held, ids-long, next-long, counted-new, counted-ids, Settled, settled}
-use Rattle.numbered.proofs.Entries.{entryBytes, Met, no-message, it, order, inside, behind, run-length, cut-is, ps, flags-grown, grown, bytes-grown, after-grown, one-more, entry-length, payload-least}
+use Rattle.numbered.proofs.Entries.{entryBytes, Met, no-message-there, it, order, inside, behind, run-length, cut-is, ps, flags-grown, grown, bytes-grown, after-grown, one-more, entry-length, payload-least}
 
 -- a message with this front: how many packages it has is not looked at
 abbrev whole : ℕ → Header → Message
 whole k h = record { header = h; payload = payloadFrom k h; next = nextFrom k h; packages = 0 }
 
 -- the front of a message that passes
-met-front : (recordingBytes : List ℕ) (k : ℕ) (h : Header) → toldHeader (header.Header h) ≡ frontAt recordingBytes k
+met-front : (recordingBytes : List ℕ) (k : ℕ) (h : Header) → headOfHeader h ≡ head (drop k recordingBytes)
     → (r : ℕ × List (List ℕ)) → everyCheck k (drop k recordingBytes) (head (drop k recordingBytes)) ≡ good r → Met recordingBytes k (whole k h)
-met-front recordingBytes k h e r q =
-    let s = sym (known recordingBytes k h e .same) in
+met-front recordingBytes k h same r q =
+    let s = sym same in
     record {
       r = r;
       read = q;
@@ -150,10 +148,18 @@ module _ (rs : List rows.Row) (recordingBytes ids₀ next₀ : List ℕ) (held�
         no-refusal : {n p : ℕ} → message k (drop k recordingBytes) ≡ bad n p → ⊥
         no-refusal b = good≢bad (sym (doing-bad message recordingBytes (inv .done) k (inv .doing) l b) ∙ room .read)
 
-        pub write-refused : (f : Refusal) → toldHeader (header.Refused f) ≡ frontAt recordingBytes k → ⊥
-        write-refused f e = no-refusal (no-message recordingBytes k short f (front-refused recordingBytes k f e))
+        -- checks 1 to 9 pass
+        passes : (n : ℕ) × (good n ≡ frontRun recordingBytes k)
+        passes = go (frontRun recordingBytes k) refl
+          where
+            go : (o : Outcome ℕ) → frontRun recordingBytes k ≡ o → (n : ℕ) × (good n ≡ frontRun recordingBytes k)
+            go (good n) e = (n, sym e)
+            go (bad n p) e = absurd (no-refusal (no-message-there recordingBytes k short (front-stopped recordingBytes k (front-bad recordingBytes k (sym e)))))
 
-        module _ (marks : List ℕ) (marked : Marked rs recordingBytes marks) (h : Header) (e : toldHeader (header.Header h) ≡ frontAt recordingBytes k) where
+        pub write-there : (h : Header) → h ≡ headerIn recordingBytes k 0 → Fronted recordingBytes k h
+        write-there h e = subst (Fronted recordingBytes k) (sym e) (fronted-alone recordingBytes k (passes .0) (passes .1))
+
+        module _ (marks : List ℕ) (marked : Marked rs recordingBytes marks) (h : Header) (e : h ≡ headerIn recordingBytes k 0) where
           abbrev m : Message
           m = whole k h
 
@@ -162,7 +168,7 @@ module _ (rs : List rows.Row) (recordingBytes ids₀ next₀ : List ℕ) (held�
           g = go (everyCheck k (drop k recordingBytes) (head (drop k recordingBytes))) refl
             where
               go : (o : Outcome (ℕ × List (List ℕ))) → everyCheck k (drop k recordingBytes) (head (drop k recordingBytes)) ≡ o → Met recordingBytes k m
-              go (good r) q = met-front recordingBytes k h e r q
+              go (good r) q = met-front recordingBytes k h (ap headOfHeader e ∙ numbers-there recordingBytes k (passes .0) (passes .1) 0) r q
               go (bad n p) q = absurd (no-refusal (stop _ _ q))
 
           abbrev id : ℕ

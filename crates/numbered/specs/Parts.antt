@@ -137,14 +137,13 @@ entered t s false = record { bytes = t .bytes + 24 + s .bytes; messages = t .mes
 abbrev pub withEntry : Totals → Size → Totals
 withEntry t s = entered t s (eqb (s .packages) 0)
 
--- the bytes of package p, whose data stand in run
-unfoldable pub pieceAs : List ℕ → Package → List ℕ
-pieceAs run p = put32 (p .id .0) (put16 (p .length) (0 ∷ p .status ∷ put32 (p .delta) (part (p .from) (p .from + (p .to - p .from)) run ++ replicate (p .next - p .to) 0)))
+-- the bytes of package p, which stands at place k of run, reserved byte and padding zero
+unfoldable pub pieceAs : List ℕ → ℕ → Package → List ℕ
+pieceAs run k p = part k (k + 6) run ++ (0 ∷ part (k + 7) (p .to) run) ++ replicate (p .next - p .to) 0
 
 -- the numbers of p, which stands at place k of run, are in order
 pub record Placed (run : List ℕ) (k : ℕ) (p : Package) : Type 0 where
-  pub front : k ≤ p .from
-  pub content : p .from ≤ p .to
+  pub front : k + 12 ≤ p .to
   pub padding : p .to ≤ p .next
   pub little : p .next ≤ p .to + 3
   pub inside : p .next ≤ length run

@@ -34,6 +34,7 @@ use sheet::read_table;
 use sheet::source_of;
 use wire::bit_at;
 use wire::put_bit;
+use wire::put_byte;
 use wire::put_part;
 use wire::put_word;
 
@@ -394,22 +395,20 @@ fn put_words(out: &mut [u8], at: usize, first: u32, second: u32)
     put_word(out, at + 4, second);
 }
 
-// Stores package p of a run from `at` on, reserved byte and padding zero.
-fn write_package(run: &[u8], p: Package, out: &mut [u8], at: usize)
-    requires { ⌜ (at ≤ 262144) × Placed (now run) 0 p ⌝ }
-    ensures { λ _. ⌜ now (out .exit) ≡ sets (now (out .entry)) at (pieceAs (now (run .entry)) p) ⌝ }
+// Stores package p, which stands at place k of a run, from `at` on, reserved byte and padding zero.
+fn write_package(run: &[u8], k: usize, p: Package, out: &mut [u8], at: usize)
+    requires { ⌜ (at ≤ 262144) × Placed (now run) k p ⌝ }
+    ensures { λ _. ⌜ now (out .exit) ≡ sets (now (out .entry)) at (pieceAs (now (run .entry)) k p) ⌝ }
 {
-    // The length, a zero and the status are the second word.
-    let second = p.length as u32 * 65536 + p.status as u32;
-    let content = p.to - p.from;
-    // The last word is stored as zeros first: what the data leave of it is the padding, and no branch asks how long that is.
-    put_word(out, at + 8 + (p.next - p.from), 0);
-    put_words(out, at, p.id.0, second);
-    put_word(out, at + 8, p.delta);
-    put_part(out, at + 12, run, p.from, content);
+    let content = p.to - k;
+    let size = p.next - k;
+    // The last word is stored as zeros first: what the package's own bytes leave of it is the padding, and no branch asks how long that is.
+    put_word(out, at + (size - 4), 0);
+    put_part(out, at, run, k, content);
+    put_byte(out, at + 6, 0);
 }
 
-// Stores it, if it is granted. It takes the bytes from place k of the run on.
+// Stores it, if it is granted, and says where the next one goes.
 fn write_granted(
     run: &[u8],
     k: usize,
@@ -419,10 +418,10 @@ fn write_granted(
     at: usize,
 ) -> usize
     requires { ⌜ (at ≤ 196608) × Placed (now run) k p ⌝ }
-    ensures { λ r. ⌜ Stored (now (out .entry)) (now (out .exit)) at r granted (pieceAs (now (run .entry)) p) (p .next - k) ⌝ }
+    ensures { λ r. ⌜ Stored (now (out .entry)) (now (out .exit)) at r granted (pieceAs (now (run .entry)) k p) (p .next - k) ⌝ }
 {
     if granted {
-        write_package(run, p, out, at);
+        write_package(run, k, p, out, at);
         return at + (p.next - k);
     }
     at
@@ -572,7 +571,8 @@ fn deliver(
 }
 
 // Writes the copy of a recording that passes, numbered on: of a message its packages first, behind the place of its header. It says how many ids are then held.
-// Nothing is asked again: `marks` tell what the table's rows grant, and the table is there for the promise alone, which says so.
+// Nothing is checked or asked again: the messages pass, `marks` tell what the table's rows grant, and the table is there for the promise alone, which
+// says so. Of a message's option run, which its copy leaves out, nothing is needed.
 fn write_messages(
     recording: &[u8],
     table: &[u64],
@@ -592,11 +592,7 @@ fn write_messages(
     let mut at = 0;
     let mut passed = 0;
     while at < recording.len() {
-        let found = front_run(recording, at);
-        let Count::Number(run) = found else {
-            return reached.held;
-        };
-        let h = header_in(recording, at, run);
+        let h = header_in(recording, at, 0);
         let from = at + (24 + 4 * h.words as usize);
         let behind = at + h.length as usize;
         let kept = write_packages(

@@ -1,18 +1,16 @@
 -- `numbered::write_messages` meets its contract: in the loop the copy of the messages before `at` is stored, and the numbers after them are held.
 use borrow.Author.Needs.{needs}
-use mathlib.Core.Path.{_≡_, sym, ap, _∙_}
+use mathlib.Core.Path.{sym, ap, _∙_}
 use Prim.Native.Nat.{_-_, _≤_}
 use native.Mathlib.Omega.{arith}
 use lib.ListN.{length}
 use lib.Seq.{length-sets, length-take-le}
 use Rattle.message.specs.declared.Header.{Header}
-use Rattle.message.specs.declared.HeaderRead.the-variants as header
-use Rattle.message.specs.Answers.{toldCount, toldHeader, frontAt}
-use Rattle.message.proofs.Fronts.{front-bad, front-good, Fronted, fronted}
+use Rattle.message.proofs.Fronts.{Fronted}
 use Rattle.sheet.specs.Table.{rowsIn}
 use Rattle.numbered.specs.Parts.{Marked, Roomy}
 use Rattle.numbered.proofs.Marks.{sees-none}
-use Rattle.numbered.proofs.Written.{Writing, write-start, write-ended, write-refused, ready, fits, few′, write-next, ids-same, next-same}
+use Rattle.numbered.proofs.Written.{Writing, write-start, write-ended, write-there, ready, fits, few′, write-next, ids-same, next-same}
 use Rattle.numbered.proofs.write_messages.Statement.{statement}
 use Rattle.numbered.proofs.write_messages.Tie as tie
 
@@ -26,15 +24,15 @@ Inv-loop recording table marks ids₀ next₀ held out₀ seen₀ reached₀ at�
 abbrev μ-loop : tie.MeasureT-loop
 μ-loop recording table marks ids₀ next₀ held out₀ seen₀ reached₀ at₀ passed₀ ids next out seen reached at passed = length recording - at
 
--- a front was read
+-- a header was read
 abbrev H : tie.After-header-in Inv-loop μ-loop → Header
 H c = c .header-in .result
 
-read : (c : tie.After-header-in Inv-loop μ-loop) → toldHeader (header.Header (H c)) ≡ frontAt (c .before .before .before .before .before .before .before .before .before .before .before .before .before .before .before .before .before .args .recording .now) (c .before .before .before .before .before .before .loop .at)
-read c = front-good _ _ _ _ (ap toldCount (sym (c .before .before .found .given .1)) ∙ c .before .before .before .before .front-run .ensures) (c .header-in .ensures)
-
-places : (c : tie.After-header-in Inv-loop μ-loop) → Fronted (c .before .before .before .before .before .before .before .before .before .before .before .before .before .before .before .before .before .args .recording .now) (c .before .before .before .before .before .before .loop .at) (H c)
-places c = fronted _ _ (H c) (read c)
+places : (c : tie.After-header-in Inv-loop μ-loop) → Fronted (c .before .before .before .before .before .before .before .before .before .before .before .before .before .args .recording .now) (c .before .before .loop .at) (H c)
+places c =
+    let v = c .before .before .loop in
+    let a = c .before .before .before .before .before .before .before .before .before .before .before .before .before .args in
+    write-there (rowsIn (a .table .now)) (a .recording .now) (a .ids .now) (a .next .now) (a .held) (a .out .now) (v .inv .1) (v .out) (v .ids) (v .next) (v .seen) (v .reached) (v .at) (v .passed) (v .inv .3) (v .inv .0) (search needs) (H c) (c .header-in .ensures)
 
 slice-reshare-prefix-see : tie.Need-slice-reshare-prefix-see Inv-loop μ-loop
 slice-reshare-prefix-see c = c .before .before .before .before .before .before .pre .1 .ids-held
@@ -53,36 +51,6 @@ loop-holds c =
     let a = c .before .before .before .before .before .before .before .before .before .before .args in
     let p = c .before .before .before .before .before .before .before .before .before .before .pre in
     (p .0, p .1, p .2, write-start (rowsIn (a .table .now)) (a .recording .now) (a .ids .now) (a .next .now) (a .held) (a .out .now) (p .1) _ (c .before .see .ensures) (search needs))
-
-front-run-requires : tie.Need-front-run-requires Inv-loop μ-loop
-front-run-requires c κs = search needs
-
-enum-known-found : tie.Need-enum-known-found Inv-loop μ-loop
-enum-known-found c = search needs
-
-enum-told : tie.Need-enum-told Inv-loop μ-loop
-enum-told c = search needs
-
-same-length : tie.Need-same-length Inv-loop μ-loop
-same-length c =
-    let v = c .before .before .before .before .loop in
-    let a = c .before .before .before .before .before .before .before .before .before .before .before .before .before .before .before .args in
-    ids-same (rowsIn (a .table .now)) (a .recording .now) (a .ids .now) (a .next .now) (a .held) (a .out .now) (v .inv .1) (v .out) (v .ids) (v .next) (v .seen) (v .reached) (v .at) (v .passed) (v .inv .3)
-
-same-length-2 : tie.Need-same-length-2 Inv-loop μ-loop
-same-length-2 c =
-    let v = c .before .before .before .before .loop in
-    let a = c .before .before .before .before .before .before .before .before .before .before .before .before .before .before .before .args in
-    next-same (rowsIn (a .table .now)) (a .recording .now) (a .ids .now) (a .next .now) (a .held) (a .out .now) (v .inv .1) (v .out) (v .ids) (v .next) (v .seen) (v .reached) (v .at) (v .passed) (v .inv .3)
-
-same-length-3 : tie.Need-same-length-3 Inv-loop μ-loop
-same-length-3 c = ap length (c .before .before .before .before .loop .inv .3 .stored) ∙ simp length-sets
-
-returns : tie.Need-returns Inv-loop μ-loop
-returns c =
-    let v = c .before .before .before .before .loop in
-    let a = c .before .before .before .before .before .before .before .before .before .before .before .before .before .before .before .args in
-    absurd (write-refused (rowsIn (a .table .now)) (a .recording .now) (a .ids .now) (a .next .now) (a .held) (a .out .now) (v .inv .1) (v .out) (v .ids) (v .next) (v .seen) (v .reached) (v .at) (v .passed) (v .inv .3) (v .inv .0) (search needs) (c .enum-told .given .0 .0) (front-bad _ _ (ap toldCount (sym (c .enum-told .given .1)) ∙ c .before .before .front-run .ensures)))
 
 header-in-requires : tie.Need-header-in-requires Inv-loop μ-loop
 header-in-requires c κs = search needs
@@ -116,35 +84,35 @@ part-write-packages-end c = places (c .before .before) .within
 
 add-write-packages : tie.Need-add-write-packages Inv-loop μ-loop
 add-write-packages c =
-    let i = c .before .before .before .before .before .before .before .before .before .before .before .loop .inv in
+    let i = c .before .before .before .before .before .before .before .loop .inv in
     omega (arith, i .3 .short, i .3 .inside, i .0)
 
 write-packages-requires : tie.Need-write-packages-requires Inv-loop μ-loop
 write-packages-requires c κs =
-    let i = c .before .before .before .before .before .before .before .before .before .before .before .loop .inv in
+    let i = c .before .before .before .before .before .before .before .loop .inv in
     (places (c .before .before .before .before .before) .small, omega (arith, i .3 .few, i .3 .inside, i .0), omega (arith, i .3 .short, i .3 .inside, i .0))
 
 slice-aggregate-deliver : tie.Need-slice-aggregate-deliver Inv-loop μ-loop
-slice-aggregate-deliver c = sym (c .before .before .before .before .before .before .before .before .before .before .before .before .before .before .before .before .before .before .loop .inv .3 .long)
+slice-aggregate-deliver c = sym (c .before .before .before .before .before .before .before .before .before .before .before .before .before .before .loop .inv .3 .long)
 
 deliver-requires : tie.Need-deliver-requires Inv-loop μ-loop
 deliver-requires c κs =
     let w = c .before .before .before .before .before .before .write-packages in
     let h = c .before .before .before .before .before .before .before .before .before .before .before .before in
-    let v = c .before .before .before .before .before .before .before .before .before .before .before .before .before .before .before .before .before .before .loop in
-    let a = c .before .before .before .before .before .before .before .before .before .before .before .before .before .before .before .before .before .before .before .before .before .before .before .before .before .before .before .before .before .args in (
-      fits (rowsIn (a .table .now)) (a .recording .now) (a .ids .now) (a .next .now) (a .held) (a .out .now) (v .inv .1) (v .out) (v .ids) (v .next) (v .seen) (v .reached) (v .at) (v .passed) (v .inv .3) (v .inv .0) (search needs) (a .marks .now) (v .inv .2) (H h) (read h) _ (w .result) (w .ensures),
+    let v = h .before .before .loop in
+    let a = h .before .before .before .before .before .before .before .before .before .before .before .before .before .args in (
+      fits (rowsIn (a .table .now)) (a .recording .now) (a .ids .now) (a .next .now) (a .held) (a .out .now) (v .inv .1) (v .out) (v .ids) (v .next) (v .seen) (v .reached) (v .at) (v .passed) (v .inv .3) (v .inv .0) (search needs) (a .marks .now) (v .inv .2) (H h) (h .header-in .ensures) _ (w .result) (w .ensures),
       search needs,
-      ready (rowsIn (a .table .now)) (a .recording .now) (a .ids .now) (a .next .now) (a .held) (a .out .now) (v .inv .1) (v .out) (v .ids) (v .next) (v .seen) (v .reached) (v .at) (v .passed) (v .inv .3) (v .inv .0) (search needs) (a .marks .now) (v .inv .2) (H h) (read h) _ (w .result) (w .ensures),
+      ready (rowsIn (a .table .now)) (a .recording .now) (a .ids .now) (a .next .now) (a .held) (a .out .now) (v .inv .1) (v .out) (v .ids) (v .next) (v .seen) (v .reached) (v .at) (v .passed) (v .inv .3) (v .inv .0) (search needs) (a .marks .now) (v .inv .2) (H h) (h .header-in .ensures) _ (w .result) (w .ensures),
     )
 
 add-passed : tie.Need-add-passed Inv-loop μ-loop
 add-passed c =
     let w = c .before .before .before .before .before .before .before .before .before .before .before .before .before .before .before .write-packages in
     let h = c .before .before .before .before .before .before .before .before .before .before .before .before .before .before .before .before .before .before .before .before .before in
-    let v = c .before .before .before .before .before .before .before .before .before .before .before .before .before .before .before .before .before .before .before .before .before .before .before .before .before .before .before .loop in
-    let a = c .before .before .before .before .before .before .before .before .before .before .before .before .before .before .before .before .before .before .before .before .before .before .before .before .before .before .before .before .before .before .before .before .before .before .before .before .before .before .args in
-    omega (arith, v .inv .0, places h .within, few′ (rowsIn (a .table .now)) (a .recording .now) (a .ids .now) (a .next .now) (a .held) (a .out .now) (v .inv .1) (v .out) (v .ids) (v .next) (v .seen) (v .reached) (v .at) (v .passed) (v .inv .3) (v .inv .0) (search needs) (a .marks .now) (v .inv .2) (H h) (read h) _ (w .result) (w .ensures))
+    let v = h .before .before .loop in
+    let a = h .before .before .before .before .before .before .before .before .before .before .before .before .before .args in
+    omega (arith, v .inv .0, places h .within, few′ (rowsIn (a .table .now)) (a .recording .now) (a .ids .now) (a .next .now) (a .held) (a .out .now) (v .inv .1) (v .out) (v .ids) (v .next) (v .seen) (v .reached) (v .at) (v .passed) (v .inv .3) (v .inv .0) (search needs) (a .marks .now) (v .inv .2) (H h) (h .header-in .ensures) _ (w .result) (w .ensures))
 
 loop-less : tie.Need-loop-less Inv-loop μ-loop
 loop-less c =
@@ -156,27 +124,27 @@ loop-again c =
     let d = c .before .before .before .before .before .before .before .before .deliver in
     let w = c .before .before .before .before .before .before .before .before .before .before .before .before .before .before .before .write-packages in
     let h = c .before .before .before .before .before .before .before .before .before .before .before .before .before .before .before .before .before .before .before .before .before in
-    let v = c .before .before .before .before .before .before .before .before .before .before .before .before .before .before .before .before .before .before .before .before .before .before .before .before .before .before .before .loop in
-    let a = c .before .before .before .before .before .before .before .before .before .before .before .before .before .before .before .before .before .before .before .before .before .before .before .before .before .before .before .before .before .before .before .before .before .before .before .before .before .before .args in
-    (v .inv .0, v .inv .1, v .inv .2, write-next (rowsIn (a .table .now)) (a .recording .now) (a .ids .now) (a .next .now) (a .held) (a .out .now) (v .inv .1) (v .out) (v .ids) (v .next) (v .seen) (v .reached) (v .at) (v .passed) (v .inv .3) (v .inv .0) (search needs) (a .marks .now) (v .inv .2) (H h) (read h) _ (w .result) (w .ensures) _ _ _ _ _ (d .ensures))
+    let v = h .before .before .loop in
+    let a = h .before .before .before .before .before .before .before .before .before .before .before .before .before .args in
+    (v .inv .0, v .inv .1, v .inv .2, write-next (rowsIn (a .table .now)) (a .recording .now) (a .ids .now) (a .next .now) (a .held) (a .out .now) (v .inv .1) (v .out) (v .ids) (v .next) (v .seen) (v .reached) (v .at) (v .passed) (v .inv .3) (v .inv .0) (search needs) (a .marks .now) (v .inv .2) (H h) (h .header-in .ensures) _ (w .result) (w .ensures) _ _ _ _ _ (d .ensures))
 
-same-length-4 : tie.Need-same-length-4 Inv-loop μ-loop
-same-length-4 c =
+same-length : tie.Need-same-length Inv-loop μ-loop
+same-length c =
     let v = c .before .loop in
     let a = c .before .before .before .before .before .before .before .before .before .before .before .before .args in
     ids-same (rowsIn (a .table .now)) (a .recording .now) (a .ids .now) (a .next .now) (a .held) (a .out .now) (v .inv .1) (v .out) (v .ids) (v .next) (v .seen) (v .reached) (v .at) (v .passed) (v .inv .3)
 
-same-length-5 : tie.Need-same-length-5 Inv-loop μ-loop
-same-length-5 c =
+same-length-2 : tie.Need-same-length-2 Inv-loop μ-loop
+same-length-2 c =
     let v = c .before .loop in
     let a = c .before .before .before .before .before .before .before .before .before .before .before .before .args in
     next-same (rowsIn (a .table .now)) (a .recording .now) (a .ids .now) (a .next .now) (a .held) (a .out .now) (v .inv .1) (v .out) (v .ids) (v .next) (v .seen) (v .reached) (v .at) (v .passed) (v .inv .3)
 
-same-length-6 : tie.Need-same-length-6 Inv-loop μ-loop
-same-length-6 c = ap length (c .before .loop .inv .3 .stored) ∙ simp length-sets
+same-length-3 : tie.Need-same-length-3 Inv-loop μ-loop
+same-length-3 c = ap length (c .before .loop .inv .3 .stored) ∙ simp length-sets
 
-returns-2 : tie.Need-returns-2 Inv-loop μ-loop
-returns-2 c =
+returns : tie.Need-returns Inv-loop μ-loop
+returns c =
     let v = c .before .loop in
     let a = c .before .before .before .before .before .before .before .before .before .before .before .before .args in
     write-ended (rowsIn (a .table .now)) (a .recording .now) (a .ids .now) (a .next .now) (a .held) (a .out .now) (v .inv .1) (v .out) (v .ids) (v .next) (v .seen) (v .reached) (v .at) (v .passed) (v .inv .3) (search needs)
@@ -192,13 +160,6 @@ write-messages-spec =
     slice-aggregate-see-2
     see-requires
     loop-holds
-    front-run-requires
-    enum-known-found
-    enum-told
-    same-length
-    same-length-2
-    same-length-3
-    returns
     header-in-requires
     cast-from
     mul-from
@@ -216,7 +177,7 @@ write-messages-spec =
     add-passed
     loop-less
     loop-again
-    same-length-4
-    same-length-5
-    same-length-6
-    returns-2)
+    same-length
+    same-length-2
+    same-length-3
+    returns)

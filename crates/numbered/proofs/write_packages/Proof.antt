@@ -8,7 +8,9 @@ use lib.Seq.{length-sets}
 use Rattle.message.specs.declared.Package.{Package}
 use Rattle.message.specs.declared.PackageRead.the-variants as P
 use Rattle.message.specs.Answers.{toldPackage}
+use Rattle.rules.specs.Bytes.{Bytes}
 use Rattle.rules.specs.Walk.{packageAt}
+use Rattle.rules.proofs.Claims.{premises-met}
 use Rattle.numbered.proofs.Found.{Found, found, on, still}
 use Rattle.numbered.proofs.Packages.{Storing, store-start, store-ended, store-stopped, store-placed, store-next}
 use Rattle.numbered.proofs.write_packages.Statement.{statement}
@@ -38,6 +40,9 @@ read c = ap toldPackage (sym (c .before .found .given .1)) ∙ c .before .before
 
 place : (c : Read) → Found (c .before .before .before .before .before .before .before .before .before .args .run .now) (c .before .before .before .before .before .loop .at) (which c)
 place c = found (c .before .before .before .before .before .before .before .before .before .args .run .now) (c .before .before .before .before .before .loop .at) (which c) (read c)
+
+bytes : (c : Read) → Bytes (c .before .before .before .before .before .before .before .before .before .args .run .now)
+bytes c = premises-met .bytes _ (λ k. omega (arith, c .before .before .before .before .before .before .before .before .shared-slice-known .given k))
 
 loop-holds : tie.Need-loop-holds Inv-loop μ-loop
 loop-holds c =
@@ -97,7 +102,7 @@ loop-again c =
     let r = c .before .before .before .before .before in
     let v = r .before .before .before .before .before .loop in
     let a = r .before .before .before .before .before .before .before .before .before .args in
-    let i = store-next (a .marks .now) (a .first) (a .run .now) (a .out .now) (a .to) (v .out) (v .end) (v .all) (v .at) (v .inv .2) (v .inv .0) (search needs) (which r) (read r) (b .result) (b .ensures) _ _ (w .ensures) in
+    let i = store-next (a .marks .now) (a .first) (a .run .now) (a .out .now) (a .to) (v .out) (v .end) (v .all) (v .at) (v .inv .2) (v .inv .0) (search needs) (which r) (read r) (bytes r) (b .result) (b .ensures) _ _ (w .ensures) in
     (search needs, ap length (i .stored) ∙ simp length-sets, i)
 
 sub-t17 : tie.Need-sub-t17 Inv-loop μ-loop
