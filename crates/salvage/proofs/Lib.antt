@@ -4,6 +4,7 @@ pub mod Cover
 pub mod Gaps
 pub mod Worked
 pub mod Claims
+pub mod Ending
 pub mod Growing
 pub mod Skips
 pub mod Surveying

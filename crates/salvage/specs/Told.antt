@@ -4,12 +4,16 @@ use mathlib.Core.Bool.{true, false}
 use mathlib.Core.List.{List, [], _∷_, map}
 use lib.Dec.{eqb}
 use lib.ListN.{take}
+use Rattle.rules.specs.Outcome.{Outcome, good, bad}
+use Rattle.rules.specs.Reading.{MessageSpot}
 use Rattle.refusal.specs.Numbers.{numberOf}
 use Rattle.salvage.specs.Salvage as rule
 use Rattle.salvage.specs.declared.Stretch.{Stretch}
 use Rattle.salvage.specs.declared.SalvageAnswer.{SalvageAnswer}
 use Rattle.salvage.specs.declared.SalvageAnswer.the-variants.{Done, Refused}
 use Rattle.salvage.specs.declared.Salvaged.{Salvaged}
+use Rattle.salvage.specs.declared.Ends.{Ends}
+use Rattle.salvage.specs.declared.Ends.the-variants.{At, Nowhere}
 
 -- a stretch of the code, and one that is all zero
 abbrev pub stretchIn : Stretch → rule.Stretch
@@ -21,6 +25,11 @@ noStretch = record { start = 0; size = 0 }
 -- the stretch from one place to another
 abbrev pub stretchOf : ℕ → ℕ → Stretch
 stretchOf start end = record { start = start; size = end - start }
+
+-- where a message that passes ends
+abbrev pub endOf : Outcome MessageSpot → Ends
+endOf (good d) = At (d .next)
+endOf (bad n p) = Nowhere
 
 -- the numbers of an answer
 abbrev pub numbers : SalvageAnswer → List rule.Stretch → ℕ → rule.Answer

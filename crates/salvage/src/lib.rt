@@ -1,6 +1,10 @@
 // What is kept of a damaged recording: every message that passes every check, and a report of the stretches that were skipped.
 // A survey finds both and writes nothing; only then are the messages stored.
-use message::MessageRead;
+use message::Count;
+use message::count_packages;
+use message::front_run;
+use message::header_in;
+use message::miscounts;
 use refusal::Refusal;
 use refusal::Why;
 ghost use mathlib.Core.Path.{_≡_};
@@ -11,7 +15,8 @@ ghost use lib.Seq.{sets};
 ghost use Rattle.rules.specs.Outcome.{bad};
 ghost use Rattle.refusal.specs.Numbers.{numberOf};
 ghost use Rattle.salvage.specs.Salvage as rule;
-ghost use Rattle.salvage.specs.Told.{noStretch, stretchOf, report, told, surveyed, skipsEnd, slotOf, startOf, reported, Fit};
+ghost use Rattle.rules.specs.Reading.{messageAt};
+ghost use Rattle.salvage.specs.Told.{noStretch, stretchOf, endOf, report, told, surveyed, skipsEnd, slotOf, startOf, reported, Fit};
 ghost use Rattle.salvage.specs.Claims.{without};
 
 // A stretch that was skipped: where it starts, and how many bytes it has.
@@ -105,6 +110,33 @@ fn start_of(count: usize, last: usize, end: usize, at: usize) -> usize
     if end == at { last } else { at }
 }
 
+// Where the message at a place ends, if one that passes every check stands there.
+enum Ends {
+    At(usize),
+    Nowhere,
+}
+
+// The same for the message at place `at`. Why one is refused is not asked, so that all stays in registers in the loop over the offsets.
+fn end_at(s: &[u8], at: usize) -> Ends
+    ensures { λ r. ⌜ r ≡ endOf (messageAt (now (s .entry)) at) ⌝ }
+{
+    let Count::Number(run) = front_run(s, at) else {
+        return Ends::Nowhere;
+    };
+    let h = header_in(s, at, run);
+    let from = at + (24 + 4 * h.words as usize);
+    let next = at + h.length as usize;
+    let Count::Number(packages) = count_packages(&s[from..next]) else {
+        return Ends::Nowhere;
+    };
+    let options = at + 24;
+    let to = options + h.run;
+    if miscounts(&s[options..to], packages) {
+        return Ends::Nowhere;
+    }
+    Ends::At(next)
+}
+
 // What is kept and what is skipped, at each offset. The last stretch, if there is one, runs from `last` to `end`.
 fn survey(s: &[u8]) -> Salvaged
     ensures { λ r. ⌜ report r ≡ surveyed (now (s .entry)) ⌝ }
@@ -120,13 +152,13 @@ fn survey(s: &[u8]) -> Salvaged
     let mut messages: usize = 0;
     let mut at: usize = 0;
     while at < s.len() {
-        match message::message_at(s, at) {
-            MessageRead::Message(m) => {
-                bytes += m.next - at;
+        match end_at(s, at) {
+            Ends::At(next) => {
+                bytes += next - at;
                 messages += 1;
-                at = m.next;
+                at = next;
             }
-            MessageRead::Refused(_) => {
+            Ends::Nowhere => {
                 let slot = slot_of(count, end, at);
                 if slot == 64 {
                     return refuse(Why::Holes, at);

@@ -1,15 +1,15 @@
 -- `salvage::survey` meets its contract: what is before `at` is surveyed, and a 65th stretch ends the survey.
 use borrow.Author.Needs.{needs}
-use mathlib.Core.Path.{sym, ap, _∙_}
+use mathlib.Core.Path.{sym, _∙_}
 use Prim.Native.Nat.{ℕ, _-_, _≤_, _<_}
 use native.Mathlib.Omega.{arith}
 use lib.ListN.{length, drop}
 use mathlib.Core.List.{List}
-use Rattle.message.specs.Answers.{spotOfMessage, toldMessage}
 use Rattle.salvage.specs.Told.{skipsEnd, slotOf, startOf}
 use Rattle.salvage.proofs.Pieces.{Lost}
 use Rattle.salvage.proofs.Skips.{inside}
-use Rattle.salvage.proofs.Surveying.{Surveying, KeptAt, kept-at, lost-at, survey-start, survey-kept, start-before, slot-most, survey-skips, survey-full, survey-ended, survey-large}
+use Rattle.salvage.proofs.Ending.{kept-end, lost-end}
+use Rattle.salvage.proofs.Surveying.{Surveying, KeptAt, survey-start, survey-kept, start-before, slot-most, survey-skips, survey-full, survey-ended, survey-large}
 use Rattle.salvage.proofs.survey.Statement.{statement}
 use Rattle.salvage.proofs.survey.Tie as tie
 
@@ -20,8 +20,8 @@ abbrev μ-loop : tie.MeasureT-loop
 μ-loop s stretches₀ count₀ last₀ end₀ bytes₀ messages₀ at₀ stretches count last end bytes messages at = length s - at
 
 -- the message that was found
-kept : (c : tie.After-struct-known Inv-loop μ-loop) → KeptAt (c .before .before .before .before .before .before .before .before .before .before .args .s .now) (c .before .before .before .before .before .before .loop .at) (c .before .before .m .given .0 .0 .next)
-kept c = kept-at (c .before .before .before .before .before .before .before .before .before .before .args .s .now) (c .before .before .before .before .before .before .loop .at) (spotOfMessage (c .before .before .m .given .0 .0)) (c .before .before .before .before .before .loop-test .taken) (ap toldMessage (sym (c .before .before .m .given .1)) ∙ c .before .before .before .before .message-at .ensures)
+kept : (c : tie.After-known-told Inv-loop μ-loop) → KeptAt (c .before .before .before .before .before .before .before .before .before .args .s .now) (c .before .before .before .before .before .loop .at) (c .before .next .given .0 .0)
+kept c = kept-end (c .before .before .before .before .before .before .before .before .before .args .s .now) (c .before .before .before .before .before .loop .at) (c .before .next .given .0 .0) (c .before .before .before .before .loop-test .taken) (sym (c .before .next .given .1) ∙ c .before .before .before .end-at .ensures)
 
 -- none was found
 module _ (c : tie.After-enum-told Inv-loop μ-loop) where
@@ -32,7 +32,7 @@ module _ (c : tie.After-enum-told Inv-loop μ-loop) where
   place = c .before .before .before .before .loop .at
 
   lost : Lost input place
-  lost = lost-at input place (c .before .before .before .before .loop .inv .0) (ap toldMessage (sym (c .enum-told .given .1)) ∙ c .before .before .message-at .ensures)
+  lost = lost-end input place (c .before .before .before .before .loop .inv .0) (sym (c .enum-told .given .1) ∙ c .before .before .end-at .ensures)
 
   -- the skips end behind the place, and the stretch begins at the place or before
   behind : (startOf (c .before .before .before .before .loop .count) (c .before .before .before .before .loop .last) (c .before .before .before .before .loop .end) place ≤ place) × ((place < skipsEnd 4 place (drop place input)) × (skipsEnd 4 place (drop place input) ≤ length input))
@@ -54,28 +54,28 @@ no-stretch-requires c κs = tt
 loop-holds : tie.Need-loop-holds Inv-loop μ-loop
 loop-holds c = rw (c .no-stretch .ensures) (c .before .if1 .left, survey-start _)
 
-message-at-requires : tie.Need-message-at-requires Inv-loop μ-loop
-message-at-requires c κs = tt
+end-at-requires : tie.Need-end-at-requires Inv-loop μ-loop
+end-at-requires c κs = tt
 
-enum-known-m : tie.Need-enum-known-m Inv-loop μ-loop
-enum-known-m c = search needs
+enum-known-next : tie.Need-enum-known-next Inv-loop μ-loop
+enum-known-next c = search needs
 
 sub-bytes : tie.Need-sub-bytes Inv-loop μ-loop
 sub-bytes c = let k = kept c in omega (arith, k .next)
 
 add-bytes : tie.Need-add-bytes Inv-loop μ-loop
-add-bytes c = let k = kept c in omega (arith, k .next, k .inside, c .before .before .before .before .before .before .loop .inv .1 .small .0)
+add-bytes c = let k = kept c in omega (arith, k .next, k .inside, c .before .before .before .before .before .loop .inv .1 .small .0)
 
 add-messages : tie.Need-add-messages Inv-loop μ-loop
-add-messages c = omega (arith, c .before .before .before .before .before .before .loop .inv .1 .small .1, c .before .before .before .before .before .before .loop .inv .1 .inside)
+add-messages c = omega (arith, c .before .before .before .before .before .loop .inv .1 .small .1, c .before .before .before .before .before .loop .inv .1 .inside)
 
 loop-less : tie.Need-loop-less Inv-loop μ-loop
 loop-less c = let k = kept c in omega (arith, k .next, k .least, k .inside)
 
 loop-again : tie.Need-loop-again Inv-loop μ-loop
 loop-again c =
-    let v = c .before .before .before .before .before .before .loop in
-    (v .inv .0, survey-kept _ _ _ _ _ _ _ _ (v .inv .1) (c .before .before .before .before .before .loop-test .taken) _ (kept c))
+    let v = c .before .before .before .before .before .loop in
+    (v .inv .0, survey-kept _ _ _ _ _ _ _ _ (v .inv .1) (c .before .before .before .before .loop-test .taken) _ (kept c))
 
 enum-told : tie.Need-enum-told Inv-loop μ-loop
 enum-told c = search needs
@@ -128,8 +128,8 @@ survey-spec =
     returns
     no-stretch-requires
     loop-holds
-    message-at-requires
-    enum-known-m
+    end-at-requires
+    enum-known-next
     sub-bytes
     add-bytes
     add-messages
