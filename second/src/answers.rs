@@ -1,13 +1,14 @@
 //! The second program's answers in the form of the library's exports: the
-//! refusal number, and values that begin with the place.
+//! refusal number, and values that begin with the place. Where a rule has a quick
+//! form, both forms answer and must agree.
 
 use crate::copy::Copied;
-use crate::ids::{self, IdRange, MOST_RANGES};
+use crate::ids::{IdRange, MOST_RANGES};
 use crate::radio::{self, LinkMetric, Measured, MOST_FIELDS};
 use crate::refusal::Refusal;
 use crate::render::Draft;
-use crate::steps::{self, Running, State, MOST_IDS};
-use crate::{burst, capture, copy, fragments, parse, purge, render, salvage, sheet};
+use crate::steps::{Running, State, MOST_IDS};
+use crate::{both, burst, parse, sheet};
 
 #[derive(Clone, Copy, Debug, PartialEq, Eq)]
 pub struct Answer<const N: usize> {
@@ -80,21 +81,21 @@ pub fn package(run: &[u8], at: usize) -> Answer<9> {
 }
 
 pub fn check(recording: &[u8]) -> Answer<3> {
-    match parse::check(recording) {
+    match both::check(recording) {
         Ok((messages, packages)) => Answer::success(&[messages, packages]),
         Err(refusal) => Answer::refused(refusal),
     }
 }
 
 pub fn write(draft: &Draft, out: &mut [u8]) -> Answer<2> {
-    match render::write(draft, out) {
+    match both::write(draft, out) {
         Ok(bytes) => Answer::success(&[bytes]),
         Err(refusal) => Answer::refused(refusal),
     }
 }
 
 pub fn clean(bytes: &[u8], out: &mut [u8]) -> Answer<2> {
-    match render::clean(bytes, out) {
+    match both::clean(bytes, out) {
         Ok(bytes) => Answer::success(&[bytes]),
         Err(refusal) => Answer::refused(refusal),
     }
@@ -132,15 +133,15 @@ fn copied(outcome: Result<Copied, Refusal>) -> Answer<4> {
 }
 
 pub fn copy_measure(recording: &[u8], sheet: &[u8]) -> Answer<4> {
-    copied(copy::measure(recording, sheet))
+    copied(both::copy_measure(recording, sheet))
 }
 
 pub fn copy_write(recording: &[u8], sheet: &[u8], out: &mut [u8]) -> Answer<4> {
-    copied(copy::write(recording, sheet, out))
+    copied(both::copy_write(recording, sheet, out))
 }
 
 pub fn purge(buffer: &mut [u8], sheet: &[u8]) -> Answer<2> {
-    match purge::purge(buffer, sheet) {
+    match both::purge(buffer, sheet) {
         Ok(bytes) => Answer::success(&[bytes]),
         Err(refusal) => Answer::refused(refusal),
     }
@@ -161,7 +162,7 @@ pub fn open_burst(buffer: &mut [u8]) -> Answer<2> {
 }
 
 pub fn read_ids(line: &[u8]) -> Answer<66> {
-    match ids::read_ids(line) {
+    match both::read_ids(line) {
         Ok(ranges) => {
             let ends = ranges.iter().flat_map(|range| [range.first as usize, range.last as usize]);
             let told: Vec<usize> = [ranges.len()].into_iter().chain(ends).collect();
@@ -178,7 +179,7 @@ pub fn write_ids(ranges: &[IdRange; MOST_RANGES], count: usize, out: &mut [u8]) 
     if count > MOST_RANGES {
         counted.push(IdRange::default());
     }
-    match ids::write_ids(&counted, out) {
+    match both::write_ids(&counted, out) {
         Ok(bytes) => Answer::success(&[bytes]),
         Err(refusal) => Answer::refused(refusal),
     }
@@ -207,7 +208,7 @@ pub fn step(
     let four_bytes = state.as_chunks_mut().0;
     let words: Vec<u32> = four_bytes.iter().map(|four| u32::from_ne_bytes(*four)).collect();
     let mut after = state_in(&words);
-    match steps::step(&mut after, input, sheet, quota, out) {
+    match both::step(&mut after, input, sheet, quota, out) {
         Ok(done) => {
             four_bytes[0] = (after.len() as u32).to_ne_bytes();
             for (at, running) in after.iter().enumerate() {
@@ -227,7 +228,7 @@ pub fn step(
 }
 
 pub fn salvage(input: &[u8], out: &mut [u8]) -> Answer<132> {
-    match salvage::salvage(input, out) {
+    match both::salvage(input, out) {
         Ok(salvaged) => {
             let stretches = salvaged.stretches;
             let mut told = vec![salvaged.bytes, salvaged.messages, stretches.len()];
@@ -239,7 +240,7 @@ pub fn salvage(input: &[u8], out: &mut [u8]) -> Answer<132> {
 }
 
 pub fn read_capture(file: &[u8], port: u16, out: &mut [u8]) -> Answer<6> {
-    match capture::read_capture(file, port, out) {
+    match both::read_capture(file, port, out) {
         Ok(told) => {
             Answer::success(&[told.bytes, told.kept, told.not_for_us, told.cut_short, told.bad])
         }
@@ -248,28 +249,28 @@ pub fn read_capture(file: &[u8], port: u16, out: &mut [u8]) -> Answer<6> {
 }
 
 pub fn write_capture(recording: &[u8], port: u16, out: &mut [u8]) -> Answer<3> {
-    match capture::write_capture(recording, port, out) {
+    match both::write_capture(recording, port, out) {
         Ok(written) => Answer::success(&[written.bytes, written.messages]),
         Err(refusal) => Answer::refused(refusal),
     }
 }
 
 pub fn cut(message: &[u8], size: usize, out: &mut [u8]) -> Answer<3> {
-    match fragments::cut(message, size, out) {
+    match both::cut(message, size, out) {
         Ok(cut) => Answer::success(&[cut.bytes, cut.fragments]),
         Err(refusal) => Answer::refused(refusal),
     }
 }
 
 pub fn join(fragments: &[u8], out: &mut [u8]) -> Answer<2> {
-    match fragments::join(fragments, out) {
+    match both::join(fragments, out) {
         Ok(bytes) => Answer::success(&[bytes]),
         Err(refusal) => Answer::refused(refusal),
     }
 }
 
 pub fn read_radio(bytes: &[u8]) -> Answer<5> {
-    match radio::read_radio(bytes) {
+    match both::read_radio(bytes) {
         Ok(message) => Answer::success(&[
             message.destination.into(),
             message.source.into(),
@@ -310,7 +311,7 @@ pub fn put_radio_tlv(
 }
 
 pub fn write_radio(header: (u16, u16, u32), run: &[u8], out: &mut [u8]) -> Answer<2> {
-    match radio::write_run(header, run, out) {
+    match both::write_run(header, run, out) {
         Ok(bytes) => Answer::success(&[bytes]),
         Err(refusal) => Answer::refused(refusal),
     }

@@ -108,7 +108,7 @@ pub fn read_capture(file: &[u8], port: u16, buffer: &mut [u8]) -> Result<Capture
 }
 
 /// The byte order of a good file header: magic, version 2.4, link type 1.
-fn order_of(file: &[u8]) -> Option<Order> {
+pub fn order_of(file: &[u8]) -> Option<Order> {
     if file.len() < FILE_HEADER_BYTES {
         return None;
     }
@@ -209,7 +209,7 @@ pub fn write_capture(recording: &[u8], port: u16, buffer: &mut [u8]) -> Result<W
 }
 
 /// The file header, big-endian; zone and accuracy are zero.
-fn file_header() -> Vec<u8> {
+pub fn file_header() -> Vec<u8> {
     let mut header = MAGIC.to_be_bytes().to_vec();
     header.extend([0, 2, 0, 4]);
     header.extend([0; 8]);
@@ -243,7 +243,7 @@ fn packet_of(message: &Message, port: u16) -> Vec<u8> {
 }
 
 /// An IP header for a packet of so many bytes, zero in all free fields.
-fn ip_header(total: usize) -> [u8; IP_BYTES] {
+pub fn ip_header(total: usize) -> [u8; IP_BYTES] {
     let mut header = [0; IP_BYTES];
     header[0] = 0x45;
     header[2..4].copy_from_slice(&(total as u16).to_be_bytes());

@@ -1,8 +1,9 @@
 //! An independent second program for the rules of Hibernaxo.
 //!
 //! It is written from the rules' text alone and shares no code with the
-//! library that it is compared with. It parses into records and renders from
-//! records; it is plain rather than fast, but for `stream`.
+//! library that it is compared with. Every rule has a plain form, which parses
+//! into records and renders from records. What the exports are timed against are
+//! the forms of `quick`, which make no records; `both` runs the two side by side.
 
 // The rules, one module for each part of the paper.
 pub mod burst;
@@ -13,6 +14,7 @@ pub mod ids;
 pub mod paper;
 pub mod parse;
 pub mod purge;
+pub mod quick;
 pub mod radio;
 pub mod refusal;
 pub mod render;
@@ -40,6 +42,7 @@ pub mod tlvs;
 
 // The comparison with the library's exports.
 pub mod answers;
+pub mod both;
 #[cfg(feature = "exports")]
 pub mod capturing;
 #[cfg(feature = "exports")]

@@ -101,12 +101,6 @@ pub fn read_header(input: &[u8]) -> Result<Header<'_>, Refusal> {
 
 /// Checks 1 to 7 for the message at this place.
 pub fn header_at(input: &[u8], place: usize) -> Result<Header<'_>, Refusal> {
-    header_here(input, place)
-}
-
-/// The same, taken apart where it is called.
-#[inline(always)]
-pub fn header_here(input: &[u8], place: usize) -> Result<Header<'_>, Refusal> {
     let left = &input[place..];
     ask(left.len() >= HEADER_BYTES, SHORT, place)?;
     ask(left[0] >> 4 == 1, VERSION, place)?;
@@ -181,7 +175,7 @@ pub fn counts(run: &[u8], packages: usize) -> bool {
 
 /// The length of the option of this kind, if it keeps the rules; `rest` are
 /// the option bytes behind the kind.
-fn option_length(kind: u8, rest: &[u8]) -> Option<usize> {
+pub fn option_length(kind: u8, rest: &[u8]) -> Option<usize> {
     if kind < 0x80 {
         return Some(1);
     }

@@ -68,7 +68,7 @@ pub fn read_sheet(sheet: &[u8]) -> Result<Vec<Row>, Refusal> {
 }
 
 /// The row in these 32 bytes, if it keeps the rules.
-fn read_row(bytes: &[u8]) -> Option<Row> {
+pub fn read_row(bytes: &[u8]) -> Option<Row> {
     let half = |from: usize| u128::from_be_bytes(bytes[from..from + 16].try_into().unwrap());
     let (ids, times) = (half(0), half(16));
     let row = Row {

@@ -1,11 +1,11 @@
 //! The copy of a recording of any length, in constant memory: two passes over it in
 //! windows, of which the first checks and measures and the second writes.
 //!
-//! Where the other modules are plain, this one is to be fast. It makes no records:
-//! messages are checked, and their granted packages taken over, where they lie.
+//! It is made of the quick forms' parts, and makes no records: messages are checked, and
+//! their granted packages taken over, where they lie.
 
-use crate::copy::RELEASED_FLAGS;
-use crate::parse::*;
+use crate::quick::copy::{put_front, released_at};
+use crate::quick::sheet::Grants;
 use crate::refusal::*;
 use crate::sheet::{read_sheet, Row, MOST_ROWS, ROW_BYTES};
 use crate::steps::{number_for, State};
@@ -60,7 +60,7 @@ pub fn copy(
     rows: &[Row],
     out: &mut impl Write,
 ) -> Result<Streamed, Failure> {
-    let grants: Vec<Grant> = rows.iter().map(Grant::new).collect();
+    let grants = Grants::of(rows);
     let mut held = Held { bytes: vec![0; HELD], from: 0, to: 0, ended: false };
     let measured = pass(recording, &mut held, Pass::<false>::new(&grants), &mut io::sink())?;
     recording.rewind().map_err(Failure::Reading)?;
@@ -135,37 +135,9 @@ fn pass<const WRITING: bool>(
     }
 }
 
-/// A row with its times as they are compared.
-#[derive(Clone, Copy)]
-struct Grant {
-    row: Row,
-    start: u64,
-    end: u64,
-}
-
-impl Grant {
-    fn new(row: &Row) -> Grant {
-        Grant { row: *row, start: row.start(), end: row.end() }
-    }
-
-    /// Can the row grant packages of this message at all?
-    #[inline]
-    fn is_for(&self, message_id: u32, simulated: bool) -> bool {
-        (self.row.message_first..=self.row.message_last).contains(&message_id)
-            && !(self.row.acquired_only && simulated)
-    }
-
-    /// Does it grant this package of a message that it is for?
-    #[inline]
-    fn has(&self, package_id: u32, time: u64) -> bool {
-        (self.row.package_first..=self.row.package_last).contains(&package_id)
-            && (self.start..self.end).contains(&time)
-    }
-}
-
 /// A pass that measures alone, or writes too.
 struct Pass<'a, const WRITING: bool> {
-    grants: &'a [Grant],
+    grants: &'a Grants,
     state: State,
     done: Streamed,
     /// The part of the copy that is not written yet.
@@ -173,7 +145,7 @@ struct Pass<'a, const WRITING: bool> {
 }
 
 impl<'a, const WRITING: bool> Pass<'a, WRITING> {
-    fn new(grants: &'a [Grant]) -> Self {
+    fn new(grants: &'a Grants) -> Self {
         let room = if WRITING { WRITTEN_FROM + WINDOW } else { 0 };
         let out = Vec::with_capacity(room);
         Pass { grants, state: State::new(), done: Streamed::default(), out }
@@ -207,109 +179,20 @@ impl<'a, const WRITING: bool> Pass<'a, WRITING> {
     /// Makes every check of the message at this place, and delivers what is granted of
     /// it. Gives its end, and whether there is a number for it.
     fn message(&mut self, window: &[u8], place: usize) -> Result<(usize, bool), Refusal> {
-        let header = header_here(window, place)?;
-        let payload_place = place + HEADER_BYTES + 4 * header.option_words;
-        let end = place + header.length;
-        let payload = &window[payload_place..end];
-        ask(header.flags & FRAGMENT_FLAGS == 0, FRAGMENT, place)?;
-        ask((header.flags & STANDARD_FLAG != 0) != payload.is_empty(), STANDARD, place)?;
-
-        let simulated = header.flags & SIMULATED_FLAG != 0;
-        let rows = self.rows_for(header.message_id, simulated);
-        let start = self.out.len();
-        if WRITING {
-            self.out.extend([0; HEADER_BYTES]);
-        }
-        let (mut at, mut packages, mut granted, mut bytes) = (0, 0, 0, HEADER_BYTES);
-        while at < payload.len() {
-            let left = &payload[at..];
-            let Some((length, padded)) = package_lengths(left) else {
-                return refuse(PACKAGE, payload_place + at);
-            };
-            let (id, delta) = (number_at(left, 0), number_at(left, 8));
-            let time = package_time(header.seconds, header.nanoseconds, delta);
-            if self.some_has(rows, id, time) {
-                granted += 1;
-                bytes += padded;
-                if WRITING {
-                    self.put_package(&left[..padded], length);
-                }
-            }
-            packages += 1;
-            at += padded;
-        }
-        ask(counts(header.option_run, packages), COUNT, place)?;
-
+        let released = released_at::<WRITING>(window, place, self.grants, &mut self.out)?;
         self.done.handled += 1;
-        if granted == 0 {
-            self.out.truncate(start);
-            return Ok((end, true));
+        if released.packages == 0 {
+            return Ok((released.front.end, true));
         }
-        let Some(number) = number_for(&mut self.state, header.message_id) else {
-            return Ok((end, false));
+        let Some(number) = number_for(&mut self.state, released.front.message_id) else {
+            return Ok((released.front.end, false));
         };
         self.done.messages += 1;
-        self.done.packages += granted;
-        self.done.bytes += bytes as u64;
+        self.done.packages += released.packages as u64;
+        self.done.bytes += released.bytes as u64;
         if WRITING {
-            put_front(&mut self.out[start..start + HEADER_BYTES], &header, number, bytes);
+            put_front(&released, number, &mut self.out);
         }
-        Ok((end, true))
-    }
-
-    /// The rows that are for a message, a bit for each.
-    fn rows_for(&self, message_id: u32, simulated: bool) -> u32 {
-        let bits = self.grants.iter().enumerate();
-        bits.fold(0, |rows, (at, grant)| {
-            rows | u32::from(grant.is_for(message_id, simulated)) << at
-        })
-    }
-
-    /// Does some of these rows grant this package?
-    fn some_has(&self, mut rows: u32, package_id: u32, time: u64) -> bool {
-        while rows != 0 {
-            if self.grants[rows.trailing_zeros() as usize].has(package_id, time) {
-                return true;
-            }
-            rows &= rows - 1;
-        }
-        false
-    }
-
-    /// Takes a package over as it stands, its reserved byte and its padding zero.
-    fn put_package(&mut self, package: &[u8], length: usize) {
-        let start = self.out.len();
-        self.out.extend_from_slice(package);
-        self.out[start + 6] = 0;
-        self.out[start + length..].fill(0);
-    }
-}
-
-/// The length and the padded length of the package at the start of these bytes, if it
-/// keeps the rules.
-fn package_lengths(left: &[u8]) -> Option<(usize, usize)> {
-    if left.len() < PACKAGE_HEADER_BYTES {
-        return None;
-    }
-    let length = usize::from(u16::from_be_bytes([left[4], left[5]]));
-    let padded = up_to_four(length);
-    (length >= PACKAGE_HEADER_BYTES && padded <= left.len()).then_some((length, padded))
-}
-
-/// Puts the header of a copy's message of so many bytes in front of it. It has no options,
-/// and of the flags those that are released.
-#[inline]
-fn put_front(front: &mut [u8], header: &Header, number: u32, bytes: usize) {
-    let flags = STANDARD_FLAG | PLAYBACK_FLAG | header.flags & RELEASED_FLAGS;
-    let words = [
-        0x1000_0000 | u32::from(flags),
-        header.message_id,
-        number,
-        bytes as u32,
-        header.seconds,
-        header.nanoseconds,
-    ];
-    for (place, word) in front.chunks_exact_mut(4).zip(words) {
-        place.copy_from_slice(&word.to_be_bytes());
+        Ok((released.front.end, true))
     }
 }

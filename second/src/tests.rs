@@ -1,23 +1,25 @@
 //! The paper's numbers: P1 to P12, and what is to be run and compared. The
-//! requests have modules of their own.
+//! requests have modules of their own. Where a rule has a quick form, both are tried.
 
 mod capture;
 mod changed_rules;
 mod fragments;
 mod ids;
 mod purge;
+mod quick;
 mod radio;
 mod salvage;
 mod steps;
 mod stream;
 mod two_sheets;
 
+use crate::both::{check, clean, copy_write, write};
 use crate::burst::{open_burst, randomize, MARKER_BYTES, SEQUENCE};
-use crate::copy::{self, Copied};
+use crate::copy::Copied;
 use crate::paper::{self, from_hex, message_m, row_r};
 use crate::parse::*;
 use crate::refusal::*;
-use crate::render::{clean, write, Draft};
+use crate::render::Draft;
 use crate::sheet::{read_sheet, Row};
 use crate::text::{listing, release_copy};
 
@@ -39,7 +41,7 @@ fn m_with_options(hex: &str) -> Vec<u8> {
 fn p1_an_empty_recording_gives_an_empty_copy() {
     let mut buffer = [0x5A; 4];
     let copied = Copied { bytes: 0, messages: 0, packages: 0 };
-    assert_eq!(copy::write(&[], &row_r(), &mut buffer), Ok(copied));
+    assert_eq!(copy_write(&[], &row_r(), &mut buffer), Ok(copied));
     assert_eq!(buffer, [0x5A; 4]);
 }
 
@@ -107,7 +109,7 @@ fn p9_r_is_read_as_said() {
 fn p10_m_is_copied_under_r() {
     let mut buffer = vec![0x5A; 45];
     let copied = Copied { bytes: 40, messages: 1, packages: 1 };
-    assert_eq!(copy::write(&message_m(), &row_r(), &mut buffer), Ok(copied));
+    assert_eq!(copy_write(&message_m(), &row_r(), &mut buffer), Ok(copied));
     let expected = from_hex(
         "100000C0 00000007 00000000 00000028 00000064 00000000 \
          00000001 000D0000 00000000 AA000000",
@@ -115,7 +117,7 @@ fn p10_m_is_copied_under_r() {
     assert_eq!(buffer[..40], expected);
     assert_eq!(buffer[40..], [0x5A; 5]);
     let mut short = vec![0x5A; 39];
-    assert_eq!(copy::write(&message_m(), &row_r(), &mut short), refused(ROOM, 40));
+    assert_eq!(copy_write(&message_m(), &row_r(), &mut short), refused(ROOM, 40));
     assert_eq!(short, vec![0x5A; 39]);
 }
 
@@ -178,10 +180,10 @@ fn a_row_to_11_ns_grants_package_2_and_one_to_10_ns_does_not() {
     let to_9 = from_hex(&format!("{row} 00000190 00000090"));
     let mut buffer = [0; 56];
     let one = Copied { bytes: 40, messages: 1, packages: 1 };
-    assert_eq!(copy::write(&message_m(), &to_11, &mut buffer), Ok(one));
+    assert_eq!(copy_write(&message_m(), &to_11, &mut buffer), Ok(one));
     let none = Copied { bytes: 0, messages: 0, packages: 0 };
-    assert_eq!(copy::write(&message_m(), &to_10, &mut buffer), Ok(none));
-    assert_eq!(copy::write(&message_m(), &to_9, &mut buffer), Ok(none));
+    assert_eq!(copy_write(&message_m(), &to_10, &mut buffer), Ok(none));
+    assert_eq!(copy_write(&message_m(), &to_9, &mut buffer), Ok(none));
 }
 
 #[test]

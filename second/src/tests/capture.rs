@@ -1,13 +1,13 @@
 //! Captures: the request's words, and what holds for any file and recording.
 
+use crate::both::{check, clean, read_capture, write_capture};
 use crate::capture::*;
 use crate::dice::Dice;
 use crate::generate::*;
 use crate::packets::*;
 use crate::paper::{from_hex, m_with, message_m};
-use crate::parse::{check, read_recording};
+use crate::parse::read_recording;
 use crate::refusal::*;
-use crate::render::clean;
 
 const BIG: &str = "A1B2C3D4 0002 0004 00000000 00000000 0001000D 00000001";
 const LITTLE: &str = "D4C3B2A1 0200 0400 00000000 00000000 0D000100 01000000";

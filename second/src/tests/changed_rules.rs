@@ -2,16 +2,17 @@
 
 use super::{m_with, m_with_options, refused};
 use crate::answers;
-use crate::copy::{self, Copied};
+use crate::both::{check, clean, copy_measure, copy_write, write};
+use crate::copy::Copied;
 use crate::damage::{damaged, with_faults, FAULTS};
 use crate::dice::Dice;
 use crate::drafts::{bad_draft, good_draft};
 use crate::generate::{lay_all, message, messages, World};
 use crate::orders::*;
 use crate::paper::{from_hex, message_m, row_r};
-use crate::parse::{check, read_header, read_recording};
+use crate::parse::{read_header, read_recording};
 use crate::refusal::*;
-use crate::render::{clean, write, Draft};
+use crate::render::Draft;
 use crate::seams::Seam;
 use crate::sheet::{read_sheet, Row};
 use crate::text::release_copy;
@@ -19,21 +20,21 @@ use crate::text::release_copy;
 #[test]
 fn m_under_r_is_measured_before_it_is_written() {
     let needed = Copied { bytes: 40, messages: 1, packages: 1 };
-    assert_eq!(copy::measure(&message_m(), &row_r()), Ok(needed));
+    assert_eq!(copy_measure(&message_m(), &row_r()), Ok(needed));
     let all = Copied { bytes: 56, messages: 1, packages: 2 };
-    assert_eq!(copy::measure(&message_m(), &pack_sheet(&[everything()])), Ok(all));
+    assert_eq!(copy_measure(&message_m(), &pack_sheet(&[everything()])), Ok(all));
     let none = Copied { bytes: 0, messages: 0, packages: 0 };
-    assert_eq!(copy::measure(&[], &row_r()), Ok(none));
-    assert_eq!(copy::measure(&message_m(), &[]), Ok(none));
+    assert_eq!(copy_measure(&[], &row_r()), Ok(none));
+    assert_eq!(copy_measure(&message_m(), &[]), Ok(none));
 }
 
 #[test]
 fn measuring_refuses_what_writing_refuses() {
-    assert_eq!(copy::measure(&vec![0; 65_537], &[0; 33]), refused(ROW, 33));
-    assert_eq!(copy::measure(&vec![0; 65_537], &row_r()), refused(LARGE, 65_536));
-    assert_eq!(copy::measure(&message_m()[..23], &row_r()), refused(SHORT, 0));
+    assert_eq!(copy_measure(&vec![0; 65_537], &[0; 33]), refused(ROW, 33));
+    assert_eq!(copy_measure(&vec![0; 65_537], &row_r()), refused(LARGE, 65_536));
+    assert_eq!(copy_measure(&message_m()[..23], &row_r()), refused(SHORT, 0));
     let second_short = [&message_m()[..], &[0]].concat();
-    assert_eq!(copy::measure(&second_short, &row_r()), refused(SHORT, 56));
+    assert_eq!(copy_measure(&second_short, &row_r()), refused(SHORT, 56));
 }
 
 /// What was measured is what is then written, into just as many bytes.
@@ -53,17 +54,17 @@ fn what_was_measured_is_what_is_written() {
             0 => damaged(dice, messages),
             _ => lay_all(&messages).0,
         };
-        let measured = copy::measure(&recording, &sheet);
+        let measured = copy_measure(&recording, &sheet);
         let Ok(needed) = measured else {
             refusals += 1;
-            assert_eq!(copy::write(&recording, &sheet, &mut []), measured, "case {case}");
+            assert_eq!(copy_write(&recording, &sheet, &mut []), measured, "case {case}");
             continue;
         };
         let mut buffer = vec![0; needed.bytes];
-        assert_eq!(copy::write(&recording, &sheet, &mut buffer), measured, "case {case}");
+        assert_eq!(copy_write(&recording, &sheet, &mut buffer), measured, "case {case}");
         if needed.bytes > 0 {
             copies += 1;
-            let short = copy::write(&recording, &sheet, &mut buffer[1..]);
+            let short = copy_write(&recording, &sheet, &mut buffer[1..]);
             assert_eq!(short, refused(ROOM, needed.bytes), "case {case}");
         }
     }
@@ -76,7 +77,7 @@ fn a_window_has_its_start_and_not_its_end() {
     let at = |nanoseconds: u64| 100_000_000_000 + nanoseconds;
     for (start, end, packages) in [(10, 11, 1), (9, 10, 0), (11, 12, 0), (0, 11, 1), (10, 12, 1)] {
         let sheet = pack_sheet(&[with_window(package_2, at(start), at(end))]);
-        let measured = copy::measure(&message_m(), &sheet).unwrap();
+        let measured = copy_measure(&message_m(), &sheet).unwrap();
         assert_eq!(measured.packages, packages, "from {start} to {end}");
     }
 }
@@ -94,7 +95,7 @@ fn id_ranges_keep_both_their_ends() {
         [((7, 7), (2, 2), 1), ((0, 7), (0, 1), 1), ((7, 9), (1, 2), 2), ((0, 6), (0, 9), 0)]
     {
         let sheet = pack_sheet(&[row(message, package)]);
-        assert_eq!(copy::measure(&message_m(), &sheet).unwrap().packages, packages);
+        assert_eq!(copy_measure(&message_m(), &sheet).unwrap().packages, packages);
     }
 }
 
@@ -116,16 +117,16 @@ fn a_window_without_a_moment_is_a_bad_row() {
 fn the_latest_time_is_granted_by_no_row() {
     let latest = m_with(16, "FFFFFFFF 3B9AC9FF");
     let sheet = pack_sheet(&[everything()]);
-    assert_eq!(copy::measure(&latest, &sheet).unwrap().packages, 0);
+    assert_eq!(copy_measure(&latest, &sheet).unwrap().packages, 0);
     let just_before = m_with(16, "FFFFFFFF 3B9AC9FE");
-    assert_eq!(copy::measure(&just_before, &sheet).unwrap().packages, 1);
+    assert_eq!(copy_measure(&just_before, &sheet).unwrap().packages, 1);
 }
 
 /// The packages that a copy releases, by their first four data bytes.
 fn released(seam: &Seam, rows: &[Row]) -> Vec<u32> {
     let recording = lay_all(&seam.messages).0;
     let mut out = vec![0; recording.len()];
-    let copied = copy::write(&recording, &pack_sheet(rows), &mut out).unwrap();
+    let copied = copy_write(&recording, &pack_sheet(rows), &mut out).unwrap();
     let messages = read_recording(&out[..copied.bytes]).unwrap();
     let packages = messages.iter().flat_map(|placed| &placed.message.packages);
     packages.map(|package| u32::from_be_bytes(package.data[..4].try_into().unwrap())).collect()
@@ -165,7 +166,7 @@ fn the_lowest_spare_bit_is_for_acquired_data_only() {
     for flags in 0..=0x4F_u8 {
         if flags & 0x30 == 0 {
             let message = m_with(3, &format!("{:02X}", 0x80 | flags));
-            let packages = |sheet: &[u8]| copy::measure(&message, sheet).unwrap().packages;
+            let packages = |sheet: &[u8]| copy_measure(&message, sheet).unwrap().packages;
             assert_eq!(packages(&row), usize::from(flags & 8 == 0));
             assert_eq!(packages(&row_r()), 1);
             // Each row is judged by itself.
@@ -232,8 +233,8 @@ fn a_count_must_equal_the_packages() {
         let message = m_with_options(&format!("8706 {wrong} 0000"));
         assert_eq!(check(&message), refused(COUNT, 0));
         assert_eq!(clean(&message, &mut [0; 64]), refused(COUNT, 0));
-        assert_eq!(copy::measure(&message, &row_r()), refused(COUNT, 0));
-        assert_eq!(copy::write(&message, &row_r(), &mut []), refused(COUNT, 0));
+        assert_eq!(copy_measure(&message, &row_r()), refused(COUNT, 0));
+        assert_eq!(copy_write(&message, &row_r(), &mut []), refused(COUNT, 0));
         assert_eq!(check(&[message_m(), message.clone()].concat()), refused(COUNT, 56));
         // Reading a header alone does not count packages.
         assert_eq!(read_header(&message).unwrap().option_run.len(), 6);
@@ -262,7 +263,7 @@ fn a_second_offset_or_count_is_refused_at_its_place() {
         assert_eq!(read_header(&message), refused(OPTION, 31));
         assert_eq!(check(&message), refused(OPTION, 31));
         assert_eq!(clean(&message, &mut [0; 72]), refused(OPTION, 31));
-        assert_eq!(copy::measure(&message, &row_r()), refused(OPTION, 31));
+        assert_eq!(copy_measure(&message, &row_r()), refused(OPTION, 31));
         // Behind an option of kind 0x00 it is not read.
         let message = m_with_options(&format!("{kind}06 00000002 00 {kind}06 00000002 000000"));
         assert_eq!(check(&message), Ok((1, 2)));

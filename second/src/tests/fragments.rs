@@ -1,13 +1,13 @@
 //! Fragments: cutting and joining.
 
 use super::{m_with, m_with_options, refused};
+use crate::both::{clean, cut, join};
 use crate::dice::Dice;
-use crate::fragments::{cut, join, Cut};
+use crate::fragments::Cut;
 use crate::generate::*;
 use crate::paper::{from_hex, message_m};
 use crate::pieces::*;
 use crate::refusal::*;
-use crate::render::clean;
 
 /// The fragments of a message at this size.
 fn cut_of(message: &[u8], size: usize) -> Vec<u8> {

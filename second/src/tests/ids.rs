@@ -1,5 +1,6 @@
 //! Ids as a line of text.
 
+use crate::both::{read_ids, write_ids};
 use crate::dice::Dice;
 use crate::ids::*;
 use crate::lines::*;

@@ -1,14 +1,14 @@
 //! Purge in the buffer.
 
 use super::{m_with, m_with_options, refused};
-use crate::copy::{self, is_granted, released_list};
+use crate::both::{check, clean, copy_measure, purge};
+use crate::copy::{is_granted, released_list};
 use crate::dice::Dice;
 use crate::orders::*;
 use crate::paper::{from_hex, message_m, row_r};
 use crate::parse::*;
-use crate::purge::{kept_records, purge};
+use crate::purge::kept_records;
 use crate::refusal::*;
-use crate::render::clean;
 use crate::rests::{change_record, Scene};
 use crate::sheet::Row;
 
@@ -175,7 +175,7 @@ fn what_stays_and_the_copy_part_the_recording() {
         }
         assert!(stay.next().is_none() && go.next().is_none(), "case {case}");
         assert_eq!(after(&buffer[..used], &sheet), (buffer[..used].to_vec(), used));
-        assert_eq!(copy::measure(&buffer[..used], &sheet).unwrap().bytes, 0);
+        assert_eq!(copy_measure(&buffer[..used], &sheet).unwrap().bytes, 0);
     }
     assert!(parted > 300 && counted > 150 && whole > 300, "{parted}, {counted}, {whole}");
 }

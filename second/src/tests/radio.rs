@@ -1,6 +1,7 @@
 //! RF network messages: the words of the request and of Chapter 24, and what
 //! holds for any message.
 
+use crate::both::{read_radio, write_run};
 use crate::dice::Dice;
 use crate::paper::from_hex;
 use crate::radio::*;

@@ -2,11 +2,12 @@
 
 use super::{m_with, m_with_options, refused};
 use crate::blocks::{bad_blocks, nested, slow, with_holes, BadBlock, BLOCK_PLACES, FILLS};
+use crate::both::{check, salvage};
 use crate::dice::Dice;
 use crate::paper::message_m;
-use crate::parse::{check, message_at, read_header};
+use crate::parse::{message_at, read_header};
 use crate::refusal::*;
-use crate::salvage::{salvage, sift, Salvaged, Stretch};
+use crate::salvage::{sift, Salvaged, Stretch};
 
 /// The kept messages and the stretches, as pairs of start and length.
 fn salvaged(input: &[u8]) -> (Vec<u8>, usize, Vec<(usize, usize)>) {

@@ -1,15 +1,14 @@
 //! Long recordings by quota.
 
 use super::{m_with, m_with_options, refused};
-use crate::copy;
+use crate::both::{check, copy_write, step};
 use crate::dice::Dice;
 use crate::generate::*;
 use crate::orders::*;
 use crate::paper::{from_hex, message_m, row_r};
-use crate::parse::check;
 use crate::refusal::*;
 use crate::runs::{equal_and_other, state_of, Run};
-use crate::steps::{good_state, long_copy, step, Running, State, Stepped};
+use crate::steps::{good_state, long_copy, Running, State, Stepped};
 
 fn all() -> Vec<u8> {
     pack_sheet(&[everything()])
@@ -168,7 +167,7 @@ fn from_an_empty_state_one_step_is_the_copy() {
         let sheet = pack_sheet(&rows(dice, &targets(&messages)));
         let mut buffers = [vec![0; 65_536], vec![0; 65_536]];
         let [one, other] = &mut buffers;
-        let copied = copy::write(&input, &sheet, one);
+        let copied = copy_write(&input, &sheet, one);
         let stepped = step(&mut Vec::new(), &input, &sheet, usize::MAX, other);
         match (copied, stepped) {
             (Ok(copied), Ok(done)) => {

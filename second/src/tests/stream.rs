@@ -1,12 +1,13 @@
 //! The streaming copy beside a run of steps.
 
+use crate::both::step;
 use crate::damage::damaged;
 use crate::dice::Dice;
 use crate::generate::*;
 use crate::orders::*;
 use crate::parse::message_at;
 use crate::refusal::*;
-use crate::steps::{long_copy, step, State};
+use crate::steps::{long_copy, State};
 use crate::stream::{copy, rows_of, Failure, Streamed, WINDOW};
 use std::collections::HashSet;
 use std::io::{self, Read, Seek, SeekFrom};

@@ -3,8 +3,8 @@
 use crate::scenes::*;
 use crate::timing::*;
 use crate::Settings;
-use second::capture;
 use second::exports::raw;
+use second::quick::capture;
 use std::hint::black_box;
 
 /// The port of the captures.

@@ -4,7 +4,7 @@ use crate::scenes::*;
 use crate::timing::*;
 use crate::Settings;
 use second::exports::raw;
-use second::{parse, render};
+use second::quick::{parse, render};
 use std::hint::black_box;
 
 pub fn checks(settings: &Settings) {

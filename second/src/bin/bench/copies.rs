@@ -3,8 +3,8 @@
 use crate::scenes::*;
 use crate::timing::*;
 use crate::Settings;
-use second::copy;
 use second::exports::raw;
+use second::quick::copy;
 use std::hint::black_box;
 
 /// The medians of measuring and of writing the same copy, in nanoseconds: by

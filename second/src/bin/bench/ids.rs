@@ -6,6 +6,7 @@ use second::answers::{self, Answer};
 use second::dice::Dice;
 use second::exports::raw;
 use second::ids::{IdRange, MOST_RANGES};
+use second::quick;
 use std::hint::black_box;
 
 /// A line has so many ranges.
@@ -65,7 +66,7 @@ fn time_read_ids(count: usize, repetitions: usize) -> Line {
         black_box(read(black_box(&line)));
     };
     let mut second = || {
-        black_box(answers::read_ids(black_box(&line)));
+        assert!(black_box(quick::ids::read_ids(black_box(&line))).is_ok());
     };
     let mut plain = || memcpy(&line, &mut target);
     let medians = medians(repetitions, [&mut export, &mut second, &mut plain]);
@@ -97,7 +98,9 @@ fn time_write_ids(count: usize, repetitions: usize) -> Line {
         black_box(write(black_box(&ends), black_box(export_out)));
     };
     let mut second = || {
-        black_box(answers::write_ids(black_box(&ranges), count, black_box(second_out)));
+        let ranges = &black_box(&ranges)[..count];
+        assert!(quick::ids::write_ids(ranges, black_box(second_out)).is_ok());
+        black_box(&mut *second_out);
     };
     let mut plain = || memcpy(&line, target);
     let medians = medians(repetitions, [&mut export, &mut second, &mut plain]);

@@ -1,4 +1,4 @@
-//! Times the library's exports against the second program and against a plain
+//! Times the library's exports against the second program's quick forms and against a plain
 //! copy of as many bytes as are written, bursts also against a bytewise loop, and measuring a
 //! copy beside writing it. Purging is timed beside moving the same bytes, a step
 //! beside the single copy of the same input, and a run of steps over up to 64 MiB.

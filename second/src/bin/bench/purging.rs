@@ -4,7 +4,7 @@ use crate::scenes::*;
 use crate::timing::*;
 use crate::Settings;
 use second::exports::raw;
-use second::purge;
+use second::quick::purge;
 use std::hint::black_box;
 
 /// A plain move goes down by so many bytes.

@@ -5,7 +5,8 @@ use crate::timing::*;
 use crate::Settings;
 use second::dice::Dice;
 use second::exports::raw;
-use second::radio;
+use second::quick::radio;
+use second::radio::RadioMessage;
 use second::tlvs::{good_tlv, lay, lay_tlv, plain};
 use std::hint::black_box;
 
@@ -20,7 +21,7 @@ pub fn radio_messages(settings: &Settings) {
 }
 
 /// A radio message of TLVs of all types, reserved bits set, that is as long as it can be.
-fn radio_message(size: usize) -> (radio::RadioMessage, Vec<u8>) {
+fn radio_message(size: usize) -> (RadioMessage, Vec<u8>) {
     let mut dice = Dice::new(11, size as u64);
     let (mut message, mut length) = (plain(), 10);
     loop {
@@ -36,7 +37,7 @@ fn radio_message(size: usize) -> (radio::RadioMessage, Vec<u8>) {
     (message, bytes)
 }
 
-/// Times reading a radio message: the export counts its TLVs, the second program lists them.
+/// Times reading a radio message, whose TLVs are counted.
 fn time_read_radio(size: usize, repetitions: usize) -> Line {
     let (message, bytes) = radio_message(size);
     let length = bytes.len();
@@ -49,7 +50,8 @@ fn time_read_radio(size: usize, repetitions: usize) -> Line {
         assert_eq!((number, black_box(values)[4]), (0, message.tlvs.len() as u64));
     };
     let mut second = || {
-        assert!(black_box(radio::read_radio(black_box(&bytes))).is_ok());
+        let read = black_box(radio::read_radio(black_box(&bytes)));
+        assert!(read.is_ok_and(|read| read.tlvs == message.tlvs.len()));
     };
     let mut plain = || memcpy(&bytes, &mut target);
     let medians = medians(repetitions, [&mut export, &mut second, &mut plain]);

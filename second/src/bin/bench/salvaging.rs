@@ -5,7 +5,7 @@ use crate::timing::*;
 use crate::Settings;
 use second::blocks::slow;
 use second::exports::raw;
-use second::salvage;
+use second::quick::salvage;
 use std::hint::black_box;
 
 /// A slow salvage is timed at most so often.

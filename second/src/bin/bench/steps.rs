@@ -5,8 +5,9 @@ use crate::scenes::*;
 use crate::timing::*;
 use crate::Settings;
 use second::exports::raw;
+use second::quick::steps;
 use second::runs::STATE_WORDS;
-use second::steps::{self, State};
+use second::steps::State;
 use std::hint::black_box;
 
 /// A run has so many steps of 64 KiB.
