@@ -143,7 +143,7 @@ fn purged(recording: &[u8], sheet: &[u8]) -> Answer {
     let rows = read_sheet(sheet)?;
     let messages = messages_of(recording)?;
     let mut left = Vec::new();
-    for kept in purge::kept_records(&messages, &rows) {
+    for kept in purge::kept_records(messages.clone(), &rows) {
         let message = second::parse::Message { option_run: &kept.option_run, ..kept.message };
         let start = left.len();
         left.resize(start + rendered_length(&message), 0);

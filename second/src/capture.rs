@@ -4,9 +4,9 @@
 //! The file is first cut into its packets; then each packet is judged by
 //! itself.
 
-use crate::parse::{message_at, read_recording, Message};
+use crate::parse::{passed_at, read_recording, Message};
 use crate::refusal::*;
-use crate::render::{rendered, rendered_length};
+use crate::render::{render_behind, rendered_length};
 
 pub const MAGIC: u32 = 0xA1B2_C3D4;
 pub const FILE_HEADER_BYTES: usize = 24;
@@ -89,7 +89,7 @@ pub fn read_capture(file: &[u8], port: u16, buffer: &mut [u8]) -> Result<Capture
     ask_not_large(file.len())?;
     let packets = packets_of(file)?;
     let mut told = Captured::default();
-    let mut recording = Vec::new();
+    let mut messages = Vec::new();
     for packet in &packets {
         match judge(packet, port) {
             Verdict::NotForUs => told.not_for_us += 1,
@@ -97,13 +97,17 @@ pub fn read_capture(file: &[u8], port: u16, buffer: &mut [u8]) -> Result<Capture
             Verdict::Bad => told.bad += 1,
             Verdict::Kept(message) => {
                 told.kept += 1;
-                recording.extend(message);
+                told.bytes += message.len();
+                messages.push(message);
             }
         }
     }
-    told.bytes = recording.len();
     ask(told.bytes <= buffer.len(), ROOM, told.bytes)?;
-    buffer[..told.bytes].copy_from_slice(&recording);
+    let mut at = 0;
+    for message in messages {
+        buffer[at..at + message.len()].copy_from_slice(message);
+        at += message.len();
+    }
     Ok(told)
 }
 
@@ -187,7 +191,7 @@ fn data_of(ip: &[u8], header: usize) -> Option<&[u8]> {
 
 /// Is the data one whole message that passes every check, to the last byte?
 fn is_one_message(data: &[u8]) -> bool {
-    message_at(data, 0).is_ok_and(|placed| placed.end == data.len())
+    passed_at(data, 0).is_ok_and(|passed| passed.end == data.len())
 }
 
 /// Writes a recording as a capture: LARGE, the message checks, LARGE for a
@@ -201,7 +205,7 @@ pub fn write_capture(recording: &[u8], port: u16, buffer: &mut [u8]) -> Result<W
     }
     let mut file = file_header();
     for placed in &messages {
-        file.extend(record_of(&placed.message, port));
+        put_record(&placed.message, port, &mut file);
     }
     ask(file.len() <= buffer.len(), ROOM, file.len())?;
     buffer[..file.len()].copy_from_slice(&file);
@@ -218,28 +222,27 @@ pub fn file_header() -> Vec<u8> {
     header
 }
 
-/// The record of one message: time, both lengths, and the packet.
-fn record_of(message: &Message, port: u16) -> Vec<u8> {
-    let packet = packet_of(message, port);
-    let length = packet.len() as u32;
-    let numbers = [message.seconds, message.nanoseconds / 1_000, length, length];
-    let mut record: Vec<u8> = numbers.iter().flat_map(|number| number.to_be_bytes()).collect();
-    record.extend(packet);
-    record
+/// Puts the record of one message behind the file: time, both lengths, and the packet.
+fn put_record(message: &Message, port: u16, file: &mut Vec<u8>) {
+    let datagram = UDP_BYTES + rendered_length(message);
+    let length = (ETHERNET_BYTES + IP_BYTES + datagram) as u32;
+    for number in [message.seconds, message.nanoseconds / 1_000, length, length] {
+        file.extend(number.to_be_bytes());
+    }
+    put_packet(message, datagram, port, file);
 }
 
-/// The packet that carries a message's clean form.
-fn packet_of(message: &Message, port: u16) -> Vec<u8> {
-    let data = rendered(message);
-    let mut packet = vec![0; 12];
-    packet.extend(TYPE_IPV4.to_be_bytes());
-    packet.extend(ip_header(IP_BYTES + UDP_BYTES + data.len()));
-    packet.extend([0, 0]);
-    packet.extend(port.to_be_bytes());
-    packet.extend(((UDP_BYTES + data.len()) as u16).to_be_bytes());
-    packet.extend([0, 0]);
-    packet.extend(data);
-    packet
+/// Puts the packet that carries a message's clean form behind the file. Its datagram has
+/// so many bytes.
+fn put_packet(message: &Message, datagram: usize, port: u16, file: &mut Vec<u8>) {
+    file.extend([0; 12]);
+    file.extend(TYPE_IPV4.to_be_bytes());
+    file.extend(ip_header(IP_BYTES + datagram));
+    file.extend([0, 0]);
+    file.extend(port.to_be_bytes());
+    file.extend((datagram as u16).to_be_bytes());
+    file.extend([0, 0]);
+    render_behind(message, file);
 }
 
 /// An IP header for a packet of so many bytes, zero in all free fields.

@@ -3,8 +3,9 @@
 use crate::parse::*;
 use crate::refusal::*;
 use crate::render::render;
-use crate::sheet::{granted, read_sheet, Row};
+use crate::sheet::{granted, read_sheet, Grant, Row, Rows};
 use std::collections::HashMap;
+use std::mem::take;
 
 /// The flag bits that the released list has: 3, 2 and 1.
 pub const RELEASED_FLAGS: u8 = 0b0000_1110;
@@ -34,25 +35,38 @@ pub fn is_granted(rows: &[Row], message: &Message, package: &Package) -> bool {
 }
 
 /// The released list of a recording under these rows.
-pub fn released_list<'a>(recording: &[Placed<'a>], rows: &[Row]) -> Vec<Entry<'a>> {
-    list_of(recording, |message, package| is_granted(rows, message, package))
+pub fn released_list<'a>(recording: Vec<Placed<'a>>, rows: &[Row]) -> Vec<Entry<'a>> {
+    let mut rows = Rows::of(rows);
+    recording.into_iter().filter_map(|placed| released_entry(placed.message, &mut rows)).collect()
 }
 
 /// The list of all packages of a recording that are to be released.
 pub fn list_of<'a>(
-    recording: &[Placed<'a>],
+    recording: Vec<Placed<'a>>,
     released: impl Fn(&Message, &Package) -> bool,
 ) -> Vec<Entry<'a>> {
-    recording.iter().filter_map(|placed| entry_of(&placed.message, &released)).collect()
+    recording.into_iter().filter_map(|placed| entry_of(placed.message, &released)).collect()
+}
+
+/// The message's entry, if these rows grant one of its packages.
+pub fn released_entry<'a>(message: Message<'a>, rows: &mut Rows) -> Option<Entry<'a>> {
+    let grants = rows.grants_for(message.message_id, message.simulated());
+    entry_of(message, |message, package| is_among(grants, message, package))
+}
+
+/// Does one of these grants, which are for the message, have this package of it?
+pub fn is_among(grants: &[Grant], message: &Message, package: &Package) -> bool {
+    let time = package_time(message.seconds, message.nanoseconds, package.delta);
+    grants.iter().any(|grant| grant.has(package.id, time))
 }
 
 /// The message's entry, if one of its packages is to be released.
-pub fn entry_of<'a>(
-    message: &Message<'a>,
+fn entry_of<'a>(
+    mut message: Message<'a>,
     released: impl Fn(&Message, &Package) -> bool,
 ) -> Option<Entry<'a>> {
-    let chosen = message.packages.iter().filter(|package| released(message, package));
-    let packages: Vec<Package> = chosen.cloned().collect();
+    let mut packages = take(&mut message.packages);
+    packages.retain(|package| released(&message, package));
     (!packages.is_empty()).then_some(Entry {
         message_id: message.message_id,
         seconds: message.seconds,
@@ -60,18 +74,6 @@ pub fn entry_of<'a>(
         flags: message.flags & RELEASED_FLAGS,
         packages,
     })
-}
-
-/// The messages that the copy writes, one for each entry.
-fn messages_of(entries: Vec<Entry>) -> Vec<Message> {
-    let mut earlier: HashMap<u32, u32> = HashMap::new();
-    let mut messages = Vec::with_capacity(entries.len());
-    for entry in entries {
-        let count = earlier.entry(entry.message_id).or_insert(0);
-        messages.push(message_of(entry, *count));
-        *count += 1;
-    }
-    messages
 }
 
 /// The message that the copy writes for an entry, with this sequence number.
@@ -102,7 +104,7 @@ fn measured(entries: &[Entry]) -> Copied {
 /// COUNT for the first bad message.
 fn released<'a>(recording: &'a [u8], sheet: &[u8]) -> Result<Vec<Entry<'a>>, Refusal> {
     let rows = read_sheet(sheet)?;
-    Ok(released_list(&read_recording(recording)?, &rows))
+    Ok(released_list(read_recording(recording)?, &rows))
 }
 
 /// Measures the copy; it takes no buffer, so there is no ROOM.
@@ -120,7 +122,11 @@ pub fn write_list(entries: Vec<Entry>, buffer: &mut [u8]) -> Result<Copied, Refu
     let needed = measured(&entries).bytes;
     ask(needed <= buffer.len(), ROOM, needed)?;
     let mut written = Copied { bytes: 0, messages: 0, packages: 0 };
-    for message in messages_of(entries) {
+    let mut earlier: HashMap<u32, u32> = HashMap::new();
+    for entry in entries {
+        let count = earlier.entry(entry.message_id).or_insert(0);
+        let message = message_of(entry, *count);
+        *count += 1;
         written.bytes += render(&message, &mut buffer[written.bytes..]);
         written.messages += 1;
         written.packages += message.packages.len();

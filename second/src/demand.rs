@@ -275,7 +275,7 @@ fn equal_released_lists(one: &[u8], other: &[u8], rows: &[Row]) -> bool {
     let (Ok(one), Ok(other)) = (read_recording(one), read_recording(other)) else {
         return false;
     };
-    released_list(&one, rows) == released_list(&other, rows)
+    released_list(one, rows) == released_list(other, rows)
 }
 
 pub fn withheld_case(judge: &mut Judge, dice: &mut Dice) {

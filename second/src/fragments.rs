@@ -2,7 +2,7 @@
 
 use crate::parse::*;
 use crate::refusal::*;
-use crate::render::{rendered, MOST_OPTION_BYTES};
+use crate::render::{render_if_room, rendered, MOST_OPTION_BYTES};
 
 // Flag bits 5-4 of fragments.
 pub const FIRST: u8 = 0b0001_0000;
@@ -20,21 +20,21 @@ pub struct Cut {
 }
 
 /// One fragment, or a whole message, with its payload as it stands.
-#[derive(Clone, Debug, PartialEq, Eq)]
-pub struct Fragment {
+#[derive(Clone, Copy, Debug)]
+struct Fragment<'a> {
     /// Flag bits 7 to 0.
-    pub flags: u8,
-    pub message_id: u32,
-    pub sequence: u32,
-    pub seconds: u32,
-    pub nanoseconds: u32,
-    pub option_run: Vec<u8>,
-    pub payload: Vec<u8>,
+    flags: u8,
+    message_id: u32,
+    sequence: u32,
+    seconds: u32,
+    nanoseconds: u32,
+    option_run: &'a [u8],
+    payload: &'a [u8],
 }
 
-impl Fragment {
+impl Fragment<'_> {
     /// The fragment's bytes, with the fewest option words.
-    pub fn lay(&self, out: &mut Vec<u8>) {
+    fn lay(&self, out: &mut Vec<u8>) {
         let option_bytes = up_to_four(self.option_run.len());
         let length = HEADER_BYTES + option_bytes + self.payload.len();
         out.extend([0x10 | (option_bytes / 4) as u8, 0, 0, self.flags]);
@@ -43,9 +43,9 @@ impl Fragment {
         for number in numbers {
             out.extend(number.to_be_bytes());
         }
-        out.extend(&self.option_run);
+        out.extend(self.option_run);
         out.extend(&[0; 3][..option_bytes - self.option_run.len()]);
-        out.extend(&self.payload);
+        out.extend(self.payload);
     }
 
     fn part(&self) -> u8 {
@@ -57,13 +57,32 @@ impl Fragment {
     fn common(&self) -> (u32, u32, u32, u8) {
         (self.message_id, self.seconds, self.nanoseconds, self.flags & !FRAGMENT_FLAGS)
     }
+
+    /// Does the fragment say that so many bytes of payload stand before it?
+    fn is_behind(&self, bytes: usize) -> bool {
+        let place = option_place(self.option_run, OFFSET_KIND);
+        place.is_some_and(|at| number_at(self.option_run, at + 2) as usize == bytes)
+    }
+
+    /// May the input begin with this one? A whole message may.
+    fn begins(&self) -> bool {
+        self.part() == 0 || self.part() == FIRST && self.is_behind(0)
+    }
+
+    /// Does it go on where the last one ends, with so many bytes of payload before it?
+    fn follows(&self, last: &Fragment, bytes: usize) -> bool {
+        (self.part() == MIDDLE || self.part() == LAST)
+            && (last.part() == FIRST || last.part() == MIDDLE)
+            && self.sequence == last.sequence.wrapping_add(1)
+            && self.common() == last.common()
+            && self.is_behind(bytes)
+    }
 }
 
 /// The option that tells a fragment's offset.
-pub fn offset_option(offset: usize) -> Vec<u8> {
-    let mut option = vec![OFFSET_KIND, OFFSET_BYTES as u8];
-    option.extend((offset as u32).to_be_bytes());
-    option
+pub fn offset_option(offset: usize) -> [u8; OFFSET_BYTES] {
+    let [a, b, c, d] = (offset as u32).to_be_bytes();
+    [OFFSET_KIND, OFFSET_BYTES as u8, a, b, c, d]
 }
 
 /// A good option run without its offset, of which it has at most one.
@@ -97,40 +116,38 @@ pub fn cut(input: &[u8], size: usize, buffer: &mut [u8]) -> Result<Cut, Refusal>
     }
     let fits = message.option_run.len() + OFFSET_BYTES <= MOST_OPTION_BYTES;
     ask(fits, OPTION, HEADER_BYTES)?;
-    let mut bytes = Vec::new();
-    let fragments = fragments_of(&message, payload, size);
-    fragments.iter().for_each(|fragment| fragment.lay(&mut bytes));
-    Ok(Cut { bytes: put(&bytes, buffer)?, fragments: fragments.len() })
+    let bytes = fragments_of(&message, payload, size);
+    Ok(Cut { bytes: put(&bytes, buffer)?, fragments: payload.len().div_ceil(size) })
 }
 
 /// The fragments of a message whose clean payload, which this is, does not fit.
-fn fragments_of(message: &Message, payload: &[u8], size: usize) -> Vec<Fragment> {
+fn fragments_of(message: &Message, payload: &[u8], size: usize) -> Vec<u8> {
     let count = payload.len().div_ceil(size);
-    let mut fragments = Vec::with_capacity(count);
+    let mut bytes = Vec::new();
     for (index, part) in payload.chunks(size).enumerate() {
         let (place, options) = match index {
             0 => (FIRST, message.option_run),
             _ if index + 1 == count => (LAST, &[][..]),
             _ => (MIDDLE, &[][..]),
         };
-        fragments.push(Fragment {
+        let fragment = Fragment {
             // Bit 7 is set, for there is a payload.
             flags: STANDARD_FLAG | message.flags | place,
             message_id: message.message_id,
             sequence: message.sequence.wrapping_add(index as u32),
             seconds: message.seconds,
             nanoseconds: message.nanoseconds,
-            option_run: [options, &offset_option(index * size)].concat(),
-            payload: part.to_vec(),
-        });
+            option_run: &[options, &offset_option(index * size)].concat(),
+            payload: part,
+        };
+        fragment.lay(&mut bytes);
     }
-    fragments
+    bytes
 }
 
 /// Checks 1 to 7 for the fragment at this place, and where it ends.
-fn fragment_at(input: &[u8], place: usize) -> Result<(Fragment, usize), Refusal> {
+fn fragment_at(input: &[u8], place: usize) -> Result<(Fragment<'_>, usize), Refusal> {
     let header = header_at(input, place)?;
-    let payload = place + HEADER_BYTES + 4 * header.option_words;
     let end = place + header.length;
     let fragment = Fragment {
         flags: header.flags,
@@ -138,78 +155,54 @@ fn fragment_at(input: &[u8], place: usize) -> Result<(Fragment, usize), Refusal>
         sequence: header.sequence,
         seconds: header.seconds,
         nanoseconds: header.nanoseconds,
-        option_run: header.option_run.to_vec(),
-        payload: input[payload..end].to_vec(),
+        option_run: header.option_run,
+        payload: &input[place + header.front()..end],
     };
     Ok((fragment, end))
 }
 
-/// Does this fragment go on where the ones before it end?
-fn follows(fragment: &Fragment, before: &[Fragment]) -> bool {
-    let Some(at) = option_place(&fragment.option_run, OFFSET_KIND) else {
-        return false;
-    };
-    let offset = number_at(&fragment.option_run, at + 2);
-    let done: usize = before.iter().map(|one| one.payload.len()).sum();
-    if offset as usize != done {
-        return false;
-    }
-    match before.last() {
-        None => fragment.part() == FIRST,
-        Some(last) => {
-            (fragment.part() == MIDDLE || fragment.part() == LAST)
-                && last.part() != LAST
-                && fragment.sequence == last.sequence.wrapping_add(1)
-                && fragment.common() == last.common()
-        }
-    }
-}
-
 /// Reads the input as one whole message or as all fragments of one: 1 to 7 and
-/// then GAP, fragment by fragment. What comes back is the whole one.
-fn gather(input: &[u8]) -> Result<Fragment, Refusal> {
-    let mut before: Vec<Fragment> = Vec::new();
-    let mut place = 0;
+/// then GAP, fragment by fragment. What comes back is the first, and the whole payload.
+fn gather(input: &[u8]) -> Result<(Fragment<'_>, Vec<u8>), Refusal> {
+    ask(!input.is_empty(), GAP, 0)?;
+    let (first, mut place) = fragment_at(input, 0)?;
+    ask(first.begins(), GAP, 0)?;
+    let mut payload = first.payload.to_vec();
+    let mut last = first;
     while place < input.len() {
         let (fragment, end) = fragment_at(input, place)?;
-        let whole_alone = place == 0 && fragment.part() == 0;
-        let behind_a_whole = before.first().is_some_and(|first| first.part() == 0);
-        let good = whole_alone || !behind_a_whole && follows(&fragment, &before);
-        ask(good, GAP, place)?;
-        before.push(fragment);
+        ask(fragment.follows(&last, payload.len()), GAP, place)?;
+        payload.extend(fragment.payload);
+        last = fragment;
         place = end;
     }
-    let (Some(first), Some(last)) = (before.first(), before.last()) else {
-        return refuse(GAP, place);
-    };
-    if first.part() == 0 {
-        return Ok(first.clone());
-    }
-    ask(last.part() == LAST, GAP, place)?;
-    let option_run = without_offset(&first.option_run);
-    let payload = before.iter().flat_map(|fragment| fragment.payload.clone()).collect();
-    Ok(Fragment { option_run, payload, ..first.clone() })
+    ask(last.part() == 0 || last.part() == LAST, GAP, place)?;
+    Ok((first, payload))
 }
 
 /// Joins fragments into the clean form, or cleans one whole message: LARGE, 1
 /// to 7 and GAP, then 9 and on at place 0, ROOM.
 pub fn join(input: &[u8], buffer: &mut [u8]) -> Result<usize, Refusal> {
     ask_not_large(input.len())?;
-    let whole = gather(input)?;
-    let standard = whole.flags & STANDARD_FLAG != 0;
-    ask(standard != whole.payload.is_empty(), STANDARD, 0)?;
-    let Ok(packages) = packages_of(&whole.payload) else {
+    let (first, payload) = gather(input)?;
+    let option_run = match first.part() {
+        0 => first.option_run.to_vec(),
+        _ => without_offset(first.option_run),
+    };
+    let standard = first.flags & STANDARD_FLAG != 0;
+    ask(standard != payload.is_empty(), STANDARD, 0)?;
+    let Ok(packages) = packages_of(&payload) else {
         return refuse(PACKAGE, 0);
     };
-    ask(counts(&whole.option_run, packages.len()), COUNT, 0)?;
+    ask(counts(&option_run, packages.len()), COUNT, 0)?;
     let message = Message {
-        flags: whole.flags & RECORD_FLAGS,
-        message_id: whole.message_id,
-        sequence: whole.sequence,
-        seconds: whole.seconds,
-        nanoseconds: whole.nanoseconds,
-        option_run: &whole.option_run,
+        flags: first.flags & RECORD_FLAGS,
+        message_id: first.message_id,
+        sequence: first.sequence,
+        seconds: first.seconds,
+        nanoseconds: first.nanoseconds,
+        option_run: &option_run,
         packages,
     };
-    put(&rendered(&message), buffer)
+    render_if_room(&message, buffer)
 }

@@ -4,6 +4,7 @@
 //! is cut into items and its numbers are looked at.
 
 use crate::refusal::*;
+use std::fmt::Write;
 
 /// A line has at most so many items.
 pub const MOST_RANGES: usize = 32;
@@ -77,20 +78,26 @@ pub fn write_ids(ranges: &[IdRange], buffer: &mut [u8]) -> Result<usize, Refusal
         ask(index < MOST_RANGES && range.first <= range.last, TEXT, index)
     };
     ranges.iter().enumerate().try_for_each(good)?;
-    let items: Vec<String> = ranges.iter().map(item_of).collect();
-    let line = items.join(",");
+    let mut line = String::new();
+    for range in ranges {
+        if !line.is_empty() {
+            line.push(',');
+        }
+        put_item(range, &mut line);
+    }
     ask(line.len() <= buffer.len(), ROOM, line.len())?;
     buffer[..line.len()].copy_from_slice(line.as_bytes());
     Ok(line.len())
 }
 
-/// A range as an item: a single id where both ends agree.
-fn item_of(range: &IdRange) -> String {
-    if range.first == range.last {
-        range.first.to_string()
+/// Puts a range behind the line as an item: a single id where both ends agree.
+fn put_item(range: &IdRange, line: &mut String) {
+    let written = if range.first == range.last {
+        write!(line, "{}", range.first)
     } else {
-        format!("{}-{}", range.first, range.last)
-    }
+        write!(line, "{}-{}", range.first, range.last)
+    };
+    written.expect("a line in memory takes every byte");
 }
 
 /// How many readings a line has by the grammar alone: a list is an item, or an

@@ -83,7 +83,7 @@ fn either_way(
 fn own_copy(recording: &[u8], released: impl Fn(&Message, &Package) -> bool) -> Copy {
     let messages = read_recording(recording).unwrap_or_default();
     let mut bytes = vec![0; recording.len()];
-    match write_list(list_of(&messages, released), &mut bytes) {
+    match write_list(list_of(messages, released), &mut bytes) {
         Ok(copied) => {
             bytes.truncate(copied.bytes);
             let told = [0, 0, copied.bytes, copied.messages, copied.packages];

@@ -3,6 +3,7 @@
 //! A message is taken apart into a record; everything else works on records.
 
 use crate::refusal::*;
+use std::mem::replace;
 
 pub const HEADER_BYTES: usize = 24;
 pub const PACKAGE_HEADER_BYTES: usize = 12;
@@ -32,6 +33,13 @@ pub struct Header<'a> {
     pub seconds: u32,
     pub nanoseconds: u32,
     pub option_run: &'a [u8],
+}
+
+impl Header<'_> {
+    /// So many bytes stand before the payload.
+    pub fn front(&self) -> usize {
+        HEADER_BYTES + 4 * self.option_words
+    }
 }
 
 /// One package; L is 12 and the number of data bytes.
@@ -132,7 +140,7 @@ pub fn header_at(input: &[u8], place: usize) -> Result<Header<'_>, Refusal> {
 /// Where the options end: at the first option of kind 0x00, or behind them
 /// all. The error is the place of the first option against the rules.
 pub fn options_end(options: &[u8]) -> Result<usize, usize> {
-    let mut once = Vec::new();
+    let (mut offset, mut count) = (false, false);
     let mut at = 0;
     while at < options.len() {
         let kind = options[at];
@@ -140,11 +148,13 @@ pub fn options_end(options: &[u8]) -> Result<usize, usize> {
             return Ok(at);
         }
         let length = option_length(kind, &options[at + 1..]).ok_or(at)?;
-        if [OFFSET_KIND, COUNT_KIND].contains(&kind) {
-            if once.contains(&kind) {
-                return Err(at);
-            }
-            once.push(kind);
+        let again = match kind {
+            OFFSET_KIND => replace(&mut offset, true),
+            COUNT_KIND => replace(&mut count, true),
+            _ => false,
+        };
+        if again {
+            return Err(at);
         }
         at += length;
     }
@@ -218,32 +228,64 @@ fn package_at(left: &[u8]) -> Option<Package<'_>> {
     })
 }
 
-/// All packages of a run; the error is the place of the first bad one.
-pub fn packages_of(run: &[u8]) -> Result<Vec<Package<'_>>, usize> {
-    let mut packages = Vec::new();
-    let mut at = 0;
+/// Visits each package of a run, and counts them; the error is the place of the first bad
+/// one.
+fn each_package<'a>(run: &'a [u8], mut visit: impl FnMut(Package<'a>)) -> Result<usize, usize> {
+    let (mut packages, mut at) = (0, 0);
     while at < run.len() {
         let package = package_at(&run[at..]).ok_or(at)?;
         at += package.padded();
-        packages.push(package);
+        packages += 1;
+        visit(package);
     }
     Ok(packages)
 }
 
-/// Checks 1 to 10 and COUNT for the message at this place.
-pub fn message_at(input: &[u8], place: usize) -> Result<Placed<'_>, Refusal> {
+/// All packages of a run; the error is the place of the first bad one.
+pub fn packages_of(run: &[u8]) -> Result<Vec<Package<'_>>, usize> {
+    let mut packages = Vec::new();
+    each_package(run, |package| packages.push(package))?;
+    Ok(packages)
+}
+
+/// Checks 1 to 10 and COUNT for the message at this place, and visits its packages. Gives
+/// its header and how many packages it has.
+fn visited_at<'a>(
+    input: &'a [u8],
+    place: usize,
+    visit: impl FnMut(Package<'a>),
+) -> Result<(Header<'a>, usize), Refusal> {
     let header = header_at(input, place)?;
-    let payload_place = place + HEADER_BYTES + 4 * header.option_words;
-    let end = place + header.length;
-    let payload = &input[payload_place..end];
+    let payload_place = place + header.front();
+    let payload = &input[payload_place..place + header.length];
     ask(header.flags & FRAGMENT_FLAGS == 0, FRAGMENT, place)?;
     let standard = header.flags & STANDARD_FLAG != 0;
     ask(standard != payload.is_empty(), STANDARD, place)?;
-    let packages = match packages_of(payload) {
+    let packages = match each_package(payload, visit) {
         Ok(packages) => packages,
         Err(bad) => return refuse(PACKAGE, payload_place + bad),
     };
-    ask(counts(header.option_run, packages.len()), COUNT, place)?;
+    ask(counts(header.option_run, packages), COUNT, place)?;
+    Ok((header, packages))
+}
+
+/// What is told of a message that is checked and not taken apart.
+#[derive(Clone, Copy, Debug)]
+pub struct Passed {
+    pub end: usize,
+    pub packages: usize,
+}
+
+/// The same checks alone; the packages are not listed.
+pub fn passed_at(input: &[u8], place: usize) -> Result<Passed, Refusal> {
+    let (header, packages) = visited_at(input, place, |_| {})?;
+    Ok(Passed { end: place + header.length, packages })
+}
+
+/// The record of the message at this place, with the same checks.
+pub fn message_at(input: &[u8], place: usize) -> Result<Placed<'_>, Refusal> {
+    let mut packages = Vec::new();
+    let (header, _) = visited_at(input, place, |package| packages.push(package))?;
     let message = Message {
         flags: header.flags & RECORD_FLAGS,
         message_id: header.message_id,
@@ -253,35 +295,31 @@ pub fn message_at(input: &[u8], place: usize) -> Result<Placed<'_>, Refusal> {
         option_run: header.option_run,
         packages,
     };
-    Ok(Placed { message, payload_place, end })
+    Ok(Placed { message, payload_place: place + header.front(), end: place + header.length })
 }
 
-/// Visits each message of a recording: LARGE, then 1 to 10 and COUNT for the
-/// first bad message.
-fn each_message<'a>(recording: &'a [u8], mut visit: impl FnMut(Placed<'a>)) -> Result<(), Refusal> {
+/// Reads a whole recording: LARGE, then 1 to 10 and COUNT for the first bad message.
+pub fn read_recording(recording: &[u8]) -> Result<Vec<Placed<'_>>, Refusal> {
     ask_not_large(recording.len())?;
+    let mut messages = Vec::new();
     let mut place = 0;
     while place < recording.len() {
         let placed = message_at(recording, place)?;
         place = placed.end;
-        visit(placed);
+        messages.push(placed);
     }
-    Ok(())
-}
-
-/// Reads a whole recording.
-pub fn read_recording(recording: &[u8]) -> Result<Vec<Placed<'_>>, Refusal> {
-    let mut messages = Vec::new();
-    each_message(recording, |placed| messages.push(placed))?;
     Ok(messages)
 }
 
-/// Checks a recording and reports its messages and packages.
+/// Checks a recording, as reading does, and reports its messages and packages.
 pub fn check(recording: &[u8]) -> Result<(usize, usize), Refusal> {
-    let (mut messages, mut packages) = (0, 0);
-    each_message(recording, |placed| {
+    ask_not_large(recording.len())?;
+    let (mut messages, mut packages, mut place) = (0, 0, 0);
+    while place < recording.len() {
+        let passed = passed_at(recording, place)?;
         messages += 1;
-        packages += placed.message.packages.len();
-    })?;
+        packages += passed.packages;
+        place = passed.end;
+    }
     Ok((messages, packages))
 }

@@ -105,7 +105,7 @@ pub fn split(dice: &mut Dice, world: &World, message: &DirtyMessage) -> Vec<Dirt
             _ if last => LAST,
             _ => MIDDLE,
         };
-        let mut options = offset_option(offset);
+        let mut options = offset_option(offset).to_vec();
         if index == 0 {
             // The offset may stand before or behind the others.
             options = match dice.chance(1, 2) {

@@ -1,10 +1,11 @@
 //! The purge: what a sheet grants goes, and the rest slides down in its buffer.
 
-use crate::copy::is_granted;
+use crate::copy::is_among;
 use crate::parse::*;
 use crate::refusal::*;
 use crate::render::render;
-use crate::sheet::{read_sheet, Row};
+use crate::sheet::{read_sheet, Row, Rows};
+use std::mem::take;
 
 /// What stays of a message: its record with the packages that stay, and its
 /// option run with the new count.
@@ -23,7 +24,7 @@ pub fn purge(buffer: &mut [u8], sheet: &[u8]) -> Result<usize, Refusal> {
     let recording = read_recording(buffer)?;
     let mut second = vec![0; buffer.len()];
     let mut used = 0;
-    for kept in kept_records(&recording, &rows) {
+    for kept in kept_records(recording, &rows) {
         let message = Message { option_run: &kept.option_run, ..kept.message };
         used += render(&message, &mut second[used..]);
     }
@@ -32,19 +33,22 @@ pub fn purge(buffer: &mut [u8], sheet: &[u8]) -> Result<usize, Refusal> {
 }
 
 /// What stays of a recording under these rows.
-pub fn kept_records<'a>(recording: &[Placed<'a>], rows: &[Row]) -> Vec<Kept<'a>> {
-    recording.iter().filter_map(|placed| kept_of(&placed.message, rows)).collect()
+pub fn kept_records<'a>(recording: Vec<Placed<'a>>, rows: &[Row]) -> Vec<Kept<'a>> {
+    let mut rows = Rows::of(rows);
+    recording.into_iter().filter_map(|placed| kept_of(placed.message, &mut rows)).collect()
 }
 
 /// What stays of a message, unless it loses its last package.
-fn kept_of<'a>(message: &Message<'a>, rows: &[Row]) -> Option<Kept<'a>> {
-    let mut packages = message.packages.clone();
-    packages.retain(|package| !is_granted(rows, message, package));
-    if packages.is_empty() && !message.packages.is_empty() {
+fn kept_of<'a>(mut message: Message<'a>, rows: &mut Rows) -> Option<Kept<'a>> {
+    let grants = rows.grants_for(message.message_id, message.simulated());
+    let mut packages = take(&mut message.packages);
+    let had_packages = !packages.is_empty();
+    packages.retain(|package| !is_among(grants, &message, package));
+    if packages.is_empty() && had_packages {
         return None;
     }
     let option_run = recounted(message.option_run, packages.len());
-    Some(Kept { message: Message { option_run: &[], packages, ..message.clone() }, option_run })
+    Some(Kept { message: Message { option_run: &[], packages, ..message }, option_run })
 }
 
 /// The option run with its package count, where it has one, set to this number.

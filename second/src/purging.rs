@@ -178,7 +178,7 @@ fn with_rests(
     ask: impl FnOnce(&[Kept], &[Kept]) -> bool,
 ) -> Option<bool> {
     let (one, other) = (read_recording(one).ok()?, read_recording(other).ok()?);
-    Some(ask(&kept_records(&one, rows), &kept_records(&other, rows)))
+    Some(ask(&kept_records(one, rows), &kept_records(other, rows)))
 }
 
 /// Two recordings of which not the same stays: the bytes in use differ.

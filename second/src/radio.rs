@@ -20,20 +20,29 @@ pub const HEARTBEAT: u8 = 5;
 pub const LINK_METRIC: u8 = 6;
 pub const TE_QUEUES: u8 = 10;
 
-/// The widths of a TLV's fields in bits, type and length included.
-fn widths(kind: u8) -> Option<&'static [usize]> {
+/// A TLV's length in bytes, and the widths of its fields in bits, type and length included.
+fn table(kind: u8) -> Option<(usize, &'static [usize])> {
     match kind {
         // Frequency, the TxOp byte, id, timeout, start, stop.
-        TXOP => Some(&[8, 8, 16, 8, 16, 8, 20, 20]),
+        TXOP => Some((13, &[8, 8, 16, 8, 16, 8, 20, 20])),
         // Timeout.
-        HEARTBEAT => Some(&[8, 8, 16]),
+        HEARTBEAT => Some((4, &[8, 8, 16])),
         // Reserved, seconds, microseconds, frequency, RSSI, CINR, error rate.
-        LINK_METRIC => Some(&[8, 8, 6, 6, 20, 16, 8, 8, 8]),
+        LINK_METRIC => Some((11, &[8, 8, 6, 6, 20, 16, 8, 8, 8])),
         // Reserved, seconds, reserved, sub-seconds, MSLPID, version, levels.
-        TE_QUEUES => Some(&[8, 8, 2, 6, 4, 20, 32, 8, 16, 16, 16, 16, 16, 16, 16, 16]),
+        TE_QUEUES => Some((27, &[8, 8, 2, 6, 4, 20, 32, 8, 16, 16, 16, 16, 16, 16, 16, 16])),
         _ => None,
     }
 }
+
+/// A TLV has at most so many fields.
+const MOST_WIDTHS: usize = 16;
+
+/// The fields of a TLV in the order of its table, and zeros behind them.
+type Fields = [u64; MOST_WIDTHS];
+
+/// The widths of the header's fields.
+const HEADER_WIDTHS: [usize; 4] = [16, 16, 16, 32];
 
 /// How many fields are told of a TLV at most.
 pub const MOST_FIELDS: usize = 11;
@@ -114,21 +123,36 @@ pub struct PlotRow {
     pub error_rate: Measured,
 }
 
-/// The bytes of a run as fields of these widths; the first bit is the highest.
-fn cut_fields(bytes: &[u8], widths: &[usize]) -> Vec<u64> {
-    let mut bits = bytes.iter().flat_map(|byte| (0..8).rev().map(move |bit| byte >> bit & 1));
-    let mut field =
-        |width: usize| (0..width).fold(0, |value, _| value << 1 | u64::from(bits.next().unwrap()));
-    widths.iter().map(|&width| field(width)).collect()
+/// The bytes of a run as fields of these widths, of at most 32 bits each; the first bit
+/// is the highest.
+fn cut_fields(bytes: &[u8], widths: &[usize]) -> Fields {
+    let mut fields = [0; MOST_WIDTHS];
+    let mut bytes = bytes.iter();
+    // The lowest `left` bits are in no field yet.
+    let (mut held, mut left) = (0_u64, 0);
+    for (field, width) in fields.iter_mut().zip(widths) {
+        while left < *width {
+            held = held << 8 | u64::from(*bytes.next().unwrap());
+            left += 8;
+        }
+        left -= width;
+        *field = held >> left & ((1 << width) - 1);
+    }
+    fields
 }
 
-/// Fields of these widths as bytes; together they are whole bytes.
-fn join_fields(fields: &[u64], widths: &[usize]) -> Vec<u8> {
-    let mut bits = Vec::new();
+/// Puts good fields of these widths behind the bytes; together they are whole bytes.
+fn join_fields(fields: &[u64], widths: &[usize], bytes: &mut Vec<u8>) {
+    // The lowest `left` bits are in no byte yet.
+    let (mut held, mut left) = (0_u64, 0);
     for (field, width) in fields.iter().zip(widths) {
-        bits.extend((0..*width).rev().map(|bit| (field >> bit & 1) as u8));
+        held = held << width | field;
+        left += width;
+        while left >= 8 {
+            left -= 8;
+            bytes.push((held >> left) as u8);
+        }
     }
-    bits.chunks(8).map(|eight| eight.iter().fold(0, |byte, bit| byte << 1 | bit)).collect()
 }
 
 impl Tlv {
@@ -141,9 +165,14 @@ impl Tlv {
         }
     }
 
+    /// The length and the widths of the TLV's type.
+    fn table(&self) -> (usize, &'static [usize]) {
+        table(self.kind()).expect("every type has a table")
+    }
+
     /// The TLV's length in bytes: that of all its fields.
     pub fn length(&self) -> usize {
-        widths(self.kind()).unwrap().iter().sum::<usize>() / 8
+        self.table().0
     }
 
     /// May these numbers stand in a TLV?
@@ -214,28 +243,42 @@ impl Tlv {
         })
     }
 
-    /// All fields behind type and length: those told and those that have one value.
-    fn fields(&self) -> Vec<u64> {
-        let mut fields = self.told();
+    /// All fields. Reserved ones and the version of a TE report are zero.
+    fn fields(&self) -> Fields {
+        let mut fields = [0; MOST_WIDTHS];
+        fields[0] = self.kind().into();
+        fields[1] = self.length() as u64;
         match self {
-            Tlv::TxOp(_) => fields.insert(1, TXOP_BYTE),
-            Tlv::Heartbeat { .. } => {}
-            Tlv::LinkMetric(_) => fields.insert(0, 0),
-            Tlv::TeQueues(_) => {
-                // Reserved bits before seconds and sub-seconds, and the version.
-                fields.insert(0, 0);
-                fields.insert(2, 0);
-                fields.insert(5, 0);
+            Tlv::TxOp(txop) => {
+                fields[2] = txop.frequency.into();
+                fields[3] = TXOP_BYTE;
+                fields[4] = txop.id.into();
+                fields[5] = txop.timeout.into();
+                fields[6] = txop.start.into();
+                fields[7] = txop.stop.into();
+            }
+            Tlv::Heartbeat { timeout } => fields[2] = (*timeout).into(),
+            Tlv::LinkMetric(metric) => {
+                fields[3] = metric.seconds.into();
+                fields[4] = metric.microseconds.into();
+                fields[5] = metric.frequency.into();
+                fields[6] = (metric.rssi as u8).into();
+                fields[7] = (metric.cinr as u8).into();
+                fields[8] = metric.error_rate.into();
+            }
+            Tlv::TeQueues(queues) => {
+                fields[3] = queues.seconds.into();
+                fields[5] = queues.subseconds.into();
+                fields[6] = queues.mslpid.into();
+                fields[8..].copy_from_slice(&queues.levels.map(u64::from));
             }
         }
         fields
     }
 
-    /// The TLV's bytes; its numbers are good.
-    pub fn bytes(&self) -> Vec<u8> {
-        let mut fields = vec![self.kind().into(), self.length() as u64];
-        fields.extend(self.fields());
-        join_fields(&fields, widths(self.kind()).unwrap())
+    /// Puts the TLV, whose numbers are good, behind the bytes.
+    fn lay(&self, bytes: &mut Vec<u8>) {
+        join_fields(&self.fields(), self.table().1, bytes);
     }
 }
 
@@ -245,8 +288,7 @@ fn is_time(seconds: u8, subseconds: u32) -> bool {
 
 /// The TLV at the start of these bytes, if it keeps the rules.
 pub fn tlv_at(left: &[u8]) -> Option<Tlv> {
-    let widths = widths(*left.first()?)?;
-    let length = widths.iter().sum::<usize>() / 8;
+    let (length, widths) = table(*left.first()?)?;
     if usize::from(*left.get(1)?) != length {
         return None;
     }
@@ -297,7 +339,7 @@ pub fn tlvs_of(run: &[u8]) -> Result<Vec<Tlv>, usize> {
 pub fn read_radio(input: &[u8]) -> Result<RadioMessage, Refusal> {
     ask_not_large(input.len())?;
     ask(input.len() >= RADIO_HEADER_BYTES, RADIO, 0)?;
-    let header = cut_fields(&input[..RADIO_HEADER_BYTES], &[16, 16, 16, 32]);
+    let header = cut_fields(&input[..RADIO_HEADER_BYTES], &HEADER_WIDTHS);
     // The message ends where the input does, and it has a payload.
     ask(LENGTH_FIELD_BYTES + header[0] as usize == input.len(), RADIO, 0)?;
     ask(input.len() > RADIO_HEADER_BYTES, RADIO, 0)?;
@@ -342,7 +384,9 @@ pub fn put_tlv(
     ask_not_large(end)?;
     ask(tlv.is_good(), RADIO, at)?;
     ask(end <= buffer.len(), ROOM, end)?;
-    buffer[at..end].copy_from_slice(&tlv.bytes());
+    let mut bytes = Vec::with_capacity(length);
+    tlv.lay(&mut bytes);
+    buffer[at..end].copy_from_slice(&bytes);
     Ok(length)
 }
 
@@ -370,10 +414,11 @@ pub fn write_radio(message: &RadioMessage, buffer: &mut [u8]) -> Result<usize, R
     ask(payload > 0, RADIO, 0)?;
     let rest = (length - LENGTH_FIELD_BYTES) as u64;
     let header = [rest, message.destination.into(), message.source.into(), message.sequence.into()];
-    let mut bytes = join_fields(&header, &[16, 16, 16, 32]);
+    let mut bytes = Vec::with_capacity(length);
+    join_fields(&header, &HEADER_WIDTHS, &mut bytes);
     for tlv in &message.tlvs {
         ask(tlv.is_good(), RADIO, bytes.len())?;
-        bytes.extend(tlv.bytes());
+        tlv.lay(&mut bytes);
     }
     ask(length <= buffer.len(), ROOM, length)?;
     buffer[..length].copy_from_slice(&bytes);

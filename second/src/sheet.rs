@@ -39,12 +39,69 @@ impl Row {
             && self.start() < self.end()
     }
 
-    /// The id ranges have both their ends; the window has its start alone.
-    pub fn grants(&self, message_id: u32, package_id: u32, time: u64, simulated: bool) -> bool {
+    /// May the row grant packages of this message? The range has both its ends.
+    fn is_for(&self, message_id: u32, simulated: bool) -> bool {
         (self.message_first..=self.message_last).contains(&message_id)
-            && (self.package_first..=self.package_last).contains(&package_id)
-            && (self.start()..self.end()).contains(&time)
             && !(self.acquired_only && simulated)
+    }
+
+    /// The packages that it then grants.
+    fn grant(&self) -> Grant {
+        Grant {
+            package_first: self.package_first,
+            package_last: self.package_last,
+            start: self.start(),
+            end: self.end(),
+        }
+    }
+
+    pub fn grants(&self, message_id: u32, package_id: u32, time: u64, simulated: bool) -> bool {
+        self.is_for(message_id, simulated) && self.grant().has(package_id, time)
+    }
+}
+
+/// The packages that a row grants of a message that it is for.
+#[derive(Clone, Copy, Debug)]
+pub struct Grant {
+    package_first: u32,
+    package_last: u32,
+    /// In nanoseconds.
+    start: u64,
+    end: u64,
+}
+
+impl Grant {
+    /// The range of ids has both its ends; the window has its start alone.
+    pub fn has(&self, package_id: u32, time: u64) -> bool {
+        (self.package_first..=self.package_last).contains(&package_id)
+            && (self.start..self.end).contains(&time)
+    }
+}
+
+/// The rows of a sheet, each with its grant. As many grants as are for the message at hand
+/// stand first in `at_hand`.
+#[derive(Clone, Debug)]
+pub struct Rows {
+    rows: Vec<(Row, Grant)>,
+    at_hand: Vec<Grant>,
+}
+
+impl Rows {
+    pub fn of(rows: &[Row]) -> Rows {
+        let at_hand: Vec<Grant> = rows.iter().map(Row::grant).collect();
+        Rows { rows: rows.iter().copied().zip(at_hand.clone()).collect(), at_hand }
+    }
+
+    /// The grants of the rows that are for this message.
+    pub fn grants_for(&mut self, message_id: u32, simulated: bool) -> &[Grant] {
+        let mut count = 0;
+        for (row, grant) in &self.rows {
+            if row.is_for(message_id, simulated) {
+                self.at_hand[count] = *grant;
+                count += 1;
+            }
+        }
+        &self.at_hand[..count]
     }
 }
 

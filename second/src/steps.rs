@@ -1,11 +1,11 @@
 //! Long recordings by quota: each step handles some whole messages, and a state
 //! carries the running sequence numbers from step to step.
 
-use crate::copy::{entry_of, is_granted, message_of};
+use crate::copy::{message_of, released_entry};
 use crate::parse::*;
 use crate::refusal::*;
-use crate::render::{render, rendered_length};
-use crate::sheet::read_sheet;
+use crate::render::{render, render_behind, rendered_length};
+use crate::sheet::{read_sheet, Rows};
 use std::collections::HashMap;
 
 /// A state has at most so many ids.
@@ -63,7 +63,7 @@ pub fn step(
     buffer: &mut [u8],
 ) -> Result<Stepped, Refusal> {
     ask(good_state(state), IDS, 0)?;
-    let rows = read_sheet(sheet)?;
+    let mut rows = Rows::of(&read_sheet(sheet)?);
     ask_not_large(input.len())?;
     // The messages within the quota, each with its place.
     let mut taken = Vec::new();
@@ -75,13 +75,13 @@ pub fn step(
         place = end;
     }
     let mut after = state.clone();
+    let handled = taken.len();
     let mut delivered = Vec::new();
-    for (at, message) in &taken {
-        let released = |message: &Message, package: &Package| is_granted(&rows, message, package);
-        if let Some(entry) = entry_of(message, released) {
+    for (at, message) in taken {
+        if let Some(entry) = released_entry(message, &mut rows) {
             match number_for(&mut after, entry.message_id) {
                 Some(number) => delivered.push(message_of(entry, number)),
-                None => return refuse(IDS, *at),
+                None => return refuse(IDS, at),
             }
         }
     }
@@ -93,7 +93,7 @@ pub fn step(
     }
     *state = after;
     Ok(Stepped {
-        handled: taken.len(),
+        handled,
         consumed: place,
         bytes,
         messages: delivered.len(),
@@ -105,22 +105,17 @@ pub fn step(
 /// sequence number is the first state's next number for its id, or 0, and how many
 /// earlier entries have the id, modulo 2^32.
 pub fn long_copy(first: &[Running], recording: &[u8], sheet: &[u8]) -> Result<Vec<u8>, Refusal> {
-    let rows = read_sheet(sheet)?;
+    let mut rows = Rows::of(&read_sheet(sheet)?);
     let mut numbers: HashMap<u32, u32> =
         first.iter().map(|running| (running.message_id, running.next)).collect();
     let (mut copy, mut place) = (Vec::new(), 0);
     while place < recording.len() {
         let placed = message_at(recording, place)?;
         place = placed.end;
-        let released = |message: &Message, package: &Package| is_granted(&rows, message, package);
-        if let Some(entry) = entry_of(&placed.message, released) {
+        if let Some(entry) = released_entry(placed.message, &mut rows) {
             let number = numbers.entry(entry.message_id).or_insert(0);
-            let message = message_of(entry, *number);
+            render_behind(&message_of(entry, *number), &mut copy);
             *number = number.wrapping_add(1);
-            let length = rendered_length(&message);
-            copy.resize(copy.len() + length, 0);
-            let start = copy.len() - length;
-            render(&message, &mut copy[start..]);
         }
     }
     Ok(copy)

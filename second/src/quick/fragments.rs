@@ -3,7 +3,7 @@
 
 use super::parse::{front_at, header_at, padded, Front};
 use super::render::{clean_header, clean_length, clean_packages, header_bytes, put, put_clean};
-use crate::fragments::{Cut, FIRST, LAST, MIDDLE, OFFSET_BYTES};
+use crate::fragments::{offset_option, Cut, FIRST, LAST, MIDDLE, OFFSET_BYTES};
 use crate::parse::*;
 use crate::refusal::*;
 use crate::render::MOST_OPTION_BYTES;
@@ -62,12 +62,6 @@ fn write_fragments(front: &Front, payload: &[u8], size: usize, buffer: &mut [u8]
         to.copy_from_slice(part);
         left = behind;
     }
-}
-
-/// The option that tells a fragment's offset.
-fn offset_option(offset: usize) -> [u8; OFFSET_BYTES] {
-    let [a, b, c, d] = (offset as u32).to_be_bytes();
-    [OFFSET_KIND, OFFSET_BYTES as u8, a, b, c, d]
 }
 
 fn part(front: &Front) -> u8 {

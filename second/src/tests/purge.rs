@@ -143,7 +143,7 @@ fn what_stays_and_the_copy_part_the_recording() {
         let before = read_recording(&recording).unwrap();
         let (buffer, used) = after(&recording, &sheet);
         let left = read_recording(&buffer[..used]).unwrap();
-        let released = released_list(&before, &scene.rows);
+        let released = released_list(before.clone(), &scene.rows);
         let (mut stay, mut go) = (left.iter(), released.iter());
         for Placed { message, .. } in &before {
             let grants = |package: &&Package| is_granted(&scene.rows, message, package);
@@ -212,7 +212,7 @@ fn equal_kept_records_give_the_same_buffer_and_others_another() {
         change_record(dice, &mut changed.messages[at]);
         let (one, other) = (scene.recording(), changed.recording());
         let (first, second) = (read_recording(&one).unwrap(), read_recording(&other).unwrap());
-        let same = kept_records(&first, &scene.rows) == kept_records(&second, &scene.rows);
+        let same = kept_records(first, &scene.rows) == kept_records(second, &scene.rows);
         let (first, second) = (after(&one, &sheet), after(&other, &sheet));
         assert_eq!(same, first.0[..first.1] == second.0[..second.1], "case {case}");
         others += usize::from(!same);

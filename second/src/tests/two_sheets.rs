@@ -19,7 +19,7 @@ fn in_turn(recording: &[u8], first: &[Row], second: &[Row]) -> Vec<u8> {
 /// The copy of the packages that both sheets grant, or that either does.
 fn copy_of(recording: &[u8], first: &[Row], second: &[Row], both: bool) -> Vec<u8> {
     let messages = read_recording(recording).unwrap();
-    let list = list_of(&messages, |message, package| {
+    let list = list_of(messages, |message, package| {
         let (one, other) =
             (is_granted(first, message, package), is_granted(second, message, package));
         if both {
