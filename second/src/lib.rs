@@ -1,9 +1,10 @@
 //! An independent second program for the rules of Hibernaxo.
 //!
 //! It is written from the rules' text alone and shares no code with the
-//! library that it is compared with. Every rule has a plain form, which parses
-//! into records and renders from records. What the exports are timed against are
-//! the forms of `quick`, which make no records; `both` runs the two side by side.
+//! library that it is compared with. It is plain: every rule parses into records
+//! and renders from records. The forms of `quick`, like the streaming copy, are made
+//! for speed alone and make no records; `both` holds them to the plain ones in every
+//! case of the comparison. The exports are timed against both.
 
 // The rules, one module for each part of the paper.
 pub mod burst;

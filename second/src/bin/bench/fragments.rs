@@ -5,7 +5,7 @@ use crate::timing::*;
 use crate::Settings;
 use second::answers::{self, Answer};
 use second::exports::raw;
-use second::quick::fragments;
+use second::{fragments, quick};
 use std::hint::black_box;
 
 /// A fragment has so many bytes of payload, which a datagram on Ethernet holds.
@@ -14,7 +14,7 @@ const PAYLOAD: usize = 1_400;
 const FRONT: usize = 32;
 
 pub fn fragments(settings: &Settings) {
-    heading("fragments of 1,400 bytes of payload; bytes are those of the input", "memcpy");
+    heading("fragments of 1,400 bytes of payload; bytes are those of the input", "ns", "memcpy");
     for shape in SHAPES {
         for size in SIZES {
             show(&time_cut(shape, size, settings.repetitions));
@@ -70,20 +70,19 @@ fn cut_message(shape: Shape, size: usize) -> (Vec<u8>, Answer<3>, Vec<u8>) {
 
 fn time_cut(shape: Shape, size: usize, repetitions: usize) -> Line {
     let (message, answer, fragments) = cut_message(shape, size);
-    let mut outs = [(); 3].map(|()| vec![0; fragments.len()]);
-    let [export_out, second_out, target] = &mut outs;
+    let mut outs = [(); 4].map(|()| vec![0; fragments.len()]);
+    let [export_out, second_out, quick_out, target] = &mut outs;
     assert_eq!(export_cut(&message, export_out), answer);
     assert!(*export_out == fragments, "the two cut otherwise");
     let mut export = || {
         black_box(export_cut(black_box(&message), black_box(export_out)));
     };
-    let mut second = || {
-        assert!(fragments::cut(black_box(&message), PAYLOAD, black_box(second_out)).is_ok());
-        black_box(&mut *second_out);
-    };
+    let mut second = || good(fragments::cut(black_box(&message), PAYLOAD, second_out), second_out);
+    let mut quick =
+        || good(quick::fragments::cut(black_box(&message), PAYLOAD, quick_out), quick_out);
     let mut plain = || memcpy(&fragments, target);
-    let medians = medians(repetitions, [&mut export, &mut second, &mut plain]);
-    assert!(outs[0] == outs[1], "the two cut otherwise");
+    let medians = medians(repetitions, [&mut export, &mut second, &mut quick, &mut plain]);
+    ask_equal(&outs);
     Line { name: format!("cut, {}", shape.name()), bytes: message.len(), medians }
 }
 
@@ -91,21 +90,19 @@ fn time_cut(shape: Shape, size: usize, repetitions: usize) -> Line {
 fn time_join(shape: Shape, size: usize, repetitions: usize) -> Line {
     let (_, _, fragments) = cut_message(shape, size * PAYLOAD / (PAYLOAD + FRONT) - FRONT);
     assert!(fragments.len() <= size, "too many fragments");
-    let mut outs = [(); 3].map(|()| vec![0; fragments.len()]);
-    let [export_out, second_out, target] = &mut outs;
+    let mut outs = [(); 4].map(|()| vec![0; fragments.len()]);
+    let [export_out, second_out, quick_out, target] = &mut outs;
     let answer = export_join(&fragments, export_out);
     assert!(answer.number == 0 && answer == answers::join(&fragments, second_out));
     assert!(export_out == second_out, "the two join otherwise");
     let mut export = || {
         black_box(export_join(black_box(&fragments), black_box(export_out)));
     };
-    let mut second = || {
-        assert!(fragments::join(black_box(&fragments), black_box(second_out)).is_ok());
-        black_box(&mut *second_out);
-    };
+    let mut second = || good(fragments::join(black_box(&fragments), second_out), second_out);
+    let mut quick = || good(quick::fragments::join(black_box(&fragments), quick_out), quick_out);
     let written = answer.values[1] as usize;
     let mut plain = || memcpy(&fragments[..written], target);
-    let medians = medians(repetitions, [&mut export, &mut second, &mut plain]);
-    assert!(outs[0] == outs[1], "the two join otherwise");
+    let medians = medians(repetitions, [&mut export, &mut second, &mut quick, &mut plain]);
+    ask_equal(&outs);
     Line { name: format!("join, {}", shape.name()), bytes: fragments.len(), medians }
 }

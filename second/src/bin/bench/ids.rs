@@ -5,7 +5,7 @@ use crate::Settings;
 use second::answers::{self, Answer};
 use second::dice::Dice;
 use second::exports::raw;
-use second::ids::{IdRange, MOST_RANGES};
+use second::ids::{self, IdRange, MOST_RANGES};
 use second::quick;
 use std::hint::black_box;
 
@@ -15,7 +15,7 @@ const RANGES: [usize; 3] = [1, 8, 32];
 const LONGEST: usize = MOST_RANGES * 22 - 1;
 
 pub fn ids(settings: &Settings) {
-    heading("ids as a line of text", "memcpy");
+    heading("ids as a line of text", "ns", "memcpy");
     for count in RANGES {
         show(&time_read_ids(count, settings.repetitions));
     }
@@ -65,19 +65,19 @@ fn time_read_ids(count: usize, repetitions: usize) -> Line {
     let mut export = || {
         black_box(read(black_box(&line)));
     };
-    let mut second = || {
-        assert!(black_box(quick::ids::read_ids(black_box(&line))).is_ok());
-    };
+    let mut second = || good(ids::read_ids(black_box(&line)), &mut []);
+    let mut quick = || good(quick::ids::read_ids(black_box(&line)), &mut []);
     let mut plain = || memcpy(&line, &mut target);
-    let medians = medians(repetitions, [&mut export, &mut second, &mut plain]);
+    let medians = medians(repetitions, [&mut export, &mut second, &mut quick, &mut plain]);
     Line { name: name_of("read ids", count), bytes: line.len(), medians }
 }
 
 fn time_write_ids(count: usize, repetitions: usize) -> Line {
-    let (ranges, line) = (ranges_of(count), line_of(count));
-    let ends: Vec<u32> = ranges.iter().flat_map(|range| [range.first, range.last]).collect();
-    let mut outs = [(); 3].map(|()| vec![0; line.len()]);
-    let [export_out, second_out, target] = &mut outs;
+    let (all, line) = (ranges_of(count), line_of(count));
+    let ranges = &all[..count];
+    let ends: Vec<u32> = all.iter().flat_map(|range| [range.first, range.last]).collect();
+    let mut outs = [(); 4].map(|()| vec![0; line.len()]);
+    let [export_out, second_out, quick_out, target] = &mut outs;
     let write = |ends: &[u32], out: &mut [u8]| {
         let mut values = [0; 2];
         // The pointers are those of 64 ends and of the buffer, whose length this is.
@@ -97,13 +97,10 @@ fn time_write_ids(count: usize, repetitions: usize) -> Line {
     let mut export = || {
         black_box(write(black_box(&ends), black_box(export_out)));
     };
-    let mut second = || {
-        let ranges = &black_box(&ranges)[..count];
-        assert!(quick::ids::write_ids(ranges, black_box(second_out)).is_ok());
-        black_box(&mut *second_out);
-    };
+    let mut second = || good(ids::write_ids(black_box(ranges), second_out), second_out);
+    let mut quick = || good(quick::ids::write_ids(black_box(ranges), quick_out), quick_out);
     let mut plain = || memcpy(&line, target);
-    let medians = medians(repetitions, [&mut export, &mut second, &mut plain]);
-    assert!(outs[0] == outs[1], "the two lines differ");
+    let medians = medians(repetitions, [&mut export, &mut second, &mut quick, &mut plain]);
+    ask_equal(&outs);
     Line { name: name_of("write ids", count), bytes: line.len(), medians }
 }

@@ -1,6 +1,7 @@
-//! Times the library's exports against the second program's quick forms and against a plain
-//! copy of as many bytes as are written, bursts also against a bytewise loop, and measuring a
-//! copy beside writing it. Purging is timed beside moving the same bytes, a step
+//! Times the library's exports against the second program, which is plain, against its quick
+//! forms, which are made for speed alone, and against a plain copy of as many bytes as are
+//! written. Bursts have no quick form, and are timed against a bytewise loop; measuring a
+//! copy is timed beside writing it. Purging is timed beside moving the same bytes, a step
 //! beside the single copy of the same input, and a run of steps over up to 64 MiB.
 //! Salvage is timed with a slow input, too; radio messages, captures, fragments and
 //! lines of ids are read and written. Of the programs that copy a recording of any

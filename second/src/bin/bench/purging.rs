@@ -4,7 +4,7 @@ use crate::scenes::*;
 use crate::timing::*;
 use crate::Settings;
 use second::exports::raw;
-use second::quick::purge;
+use second::{purge, quick};
 use std::hint::black_box;
 
 /// A plain move goes down by so many bytes.
@@ -12,7 +12,7 @@ const MOVED_BY: usize = 64;
 
 pub fn purging(settings: &Settings) {
     let title = "purging half of the packages; making the buffer anew is taken out of all ways";
-    heading(title, "memmove");
+    heading(title, "ns", "memmove");
     for shape in SHAPES {
         for size in SIZES {
             show(&time_purge(shape, size, settings.repetitions));
@@ -38,11 +38,6 @@ fn export_purge(buffer: &mut [u8], sheet: &[u8]) -> usize {
     values[1] as usize
 }
 
-/// Purges with the second program, and gives the bytes in use.
-fn second_purge(buffer: &mut [u8], sheet: &[u8]) -> usize {
-    purge::purge(black_box(buffer), black_box(sheet)).expect("the recording is good")
-}
-
 /// Times purging every second package. A purge changes its buffer, so each way
 /// begins with a fresh copy of the recording, and what that takes by itself is
 /// taken out again.
@@ -50,30 +45,33 @@ fn time_purge(shape: Shape, size: usize, repetitions: usize) -> Line {
     let recording = recording(shape, Kind::OneId, size);
     let sheet = sheet(Kind::OneId);
     let length = recording.len();
-    let mut outs = [(); 3].map(|()| recording.clone());
-    let [export_out, second_out, target] = &mut outs;
+    let mut outs = [(); 4].map(|()| recording.clone());
+    let used = export_purge(&mut outs[0], &sheet);
+    assert_eq!(purge::purge(&mut outs[1], &sheet), Ok(used));
+    assert_eq!(quick::purge::purge(&mut outs[2], &sheet), Ok(used));
+    assert!(0 < used && used < length, "nothing or all of it goes");
+    ask_equal(&outs);
+    let [export_out, second_out, quick_out, target] = &mut outs;
     let mut moved = vec![0; MOVED_BY + length];
-    let used = export_purge(export_out, &sheet);
-    assert_eq!(used, second_purge(second_out, &sheet));
-    assert!(export_out == second_out && 0 < used && used < length, "the two purges differ");
     let mut export = || {
         memcpy(&recording, export_out);
         export_purge(export_out, &sheet);
     };
     let mut second = || {
         memcpy(&recording, second_out);
-        second_purge(second_out, &sheet);
+        good(purge::purge(black_box(second_out), black_box(&sheet)), second_out);
+    };
+    let mut quick = || {
+        memcpy(&recording, quick_out);
+        good(quick::purge::purge(black_box(quick_out), black_box(&sheet)), quick_out);
     };
     let mut memmove = || {
         memcpy(&recording, &mut moved[MOVED_BY..]);
         black_box(&mut moved).copy_within(MOVED_BY.., 0);
     };
     let mut fresh = || memcpy(&recording, target);
-    let [export, second, memmove, fresh] =
-        medians(repetitions, [&mut export, &mut second, &mut memmove, &mut fresh]);
-    Line {
-        name: format!("purge half, {}", shape.name()),
-        bytes: length,
-        medians: [export - fresh, second - fresh, memmove - fresh],
-    }
+    let [ways @ .., fresh] =
+        medians(repetitions, [&mut export, &mut second, &mut quick, &mut memmove, &mut fresh]);
+    let medians = ways.map(|median| median - fresh);
+    Line { name: format!("purge half, {}", shape.name()), bytes: length, medians }
 }

@@ -5,13 +5,14 @@ use crate::timing::*;
 use crate::Settings;
 use second::dice::Dice;
 use second::exports::raw;
-use second::quick::radio;
+use second::quick::radio::Radio;
 use second::radio::RadioMessage;
 use second::tlvs::{good_tlv, lay, lay_tlv, plain};
+use second::{quick, radio};
 use std::hint::black_box;
 
 pub fn radio_messages(settings: &Settings) {
-    heading("radio messages", "memcpy");
+    heading("radio messages", "ns", "memcpy");
     for size in SIZES {
         show(&time_read_radio(size, settings.repetitions));
     }
@@ -37,7 +38,8 @@ fn radio_message(size: usize) -> (RadioMessage, Vec<u8>) {
     (message, bytes)
 }
 
-/// Times reading a radio message, whose TLVs are counted.
+/// Times reading a radio message: the second program lists its TLVs, and the others count
+/// them.
 fn time_read_radio(size: usize, repetitions: usize) -> Line {
     let (message, bytes) = radio_message(size);
     let length = bytes.len();
@@ -49,12 +51,12 @@ fn time_read_radio(size: usize, repetitions: usize) -> Line {
             unsafe { raw::hibernaxo_read_radio(bytes.as_ptr(), length, values.as_mut_ptr()) };
         assert_eq!((number, black_box(values)[4]), (0, message.tlvs.len() as u64));
     };
-    let mut second = || {
-        let read = black_box(radio::read_radio(black_box(&bytes)));
-        assert!(read.is_ok_and(|read| read.tlvs == message.tlvs.len()));
-    };
+    let mut second = || good(radio::read_radio(black_box(&bytes)), &mut []);
+    let mut quick = || good(quick::radio::read_radio(black_box(&bytes)), &mut []);
     let mut plain = || memcpy(&bytes, &mut target);
-    let medians = medians(repetitions, [&mut export, &mut second, &mut plain]);
+    let medians = medians(repetitions, [&mut export, &mut second, &mut quick, &mut plain]);
+    assert_eq!(radio::read_radio(&bytes).as_ref(), Ok(&message));
+    assert_eq!(quick::radio::read_radio(&bytes), Ok(Radio::of(&message)));
     Line { name: "read radio message".into(), bytes: length, medians }
 }
 
@@ -62,8 +64,8 @@ fn time_read_radio(size: usize, repetitions: usize) -> Line {
 fn time_write_radio(size: usize, repetitions: usize) -> Line {
     let (message, bytes) = radio_message(size);
     let (length, run) = (bytes.len(), &bytes[10..]);
-    let mut outs = [(); 3].map(|()| vec![0; length]);
-    let [export_out, second_out, target] = &mut outs;
+    let mut outs = [(); 4].map(|()| vec![0; length]);
+    let [export_out, second_out, quick_out, target] = &mut outs;
     let mut export = || {
         let (run, mut values) = (black_box(run), [0; 2]);
         // The pointers and the lengths are those of the run and the buffer.
@@ -82,13 +84,11 @@ fn time_write_radio(size: usize, repetitions: usize) -> Line {
         assert_eq!((number, black_box(values)[1]), (0, length as u64));
         black_box(&mut *export_out);
     };
-    let mut second = || {
-        let head = (message.destination, message.source, message.sequence);
-        assert!(radio::write_run(head, black_box(run), second_out).is_ok());
-        black_box(&mut *second_out);
-    };
+    let head = (message.destination, message.source, message.sequence);
+    let mut second = || good(radio::write_run(head, black_box(run), second_out), second_out);
+    let mut quick = || good(quick::radio::write_run(head, black_box(run), quick_out), quick_out);
     let mut plain = || memcpy(&bytes, target);
-    let medians = medians(repetitions, [&mut export, &mut second, &mut plain]);
-    assert!(outs[0] == outs[1], "the two messages differ");
+    let medians = medians(repetitions, [&mut export, &mut second, &mut quick, &mut plain]);
+    ask_equal(&outs);
     Line { name: "write radio message".into(), bytes: length, medians }
 }

@@ -25,7 +25,11 @@ enum Rows {
 }
 
 pub fn rows(settings: &Settings) {
-    heading("copies under more rows, of which one grants, or each for some messages", "memcpy");
+    heading(
+        "copies under more rows, of which one grants, or each for some messages",
+        "ns",
+        "memcpy",
+    );
     for shape in SHAPES {
         for rows in [Rows::Packages, Rows::Messages, Rows::Shares] {
             for count in ROWS {

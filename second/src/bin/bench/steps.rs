@@ -5,9 +5,10 @@ use crate::scenes::*;
 use crate::timing::*;
 use crate::Settings;
 use second::exports::raw;
-use second::quick::steps;
+use second::quick;
+use second::refusal::Refusal;
 use second::runs::STATE_WORDS;
-use second::steps::State;
+use second::steps::{self, State, Stepped};
 use std::hint::black_box;
 
 /// A run has so many steps of 64 KiB.
@@ -16,7 +17,7 @@ const STEPS: [usize; 3] = [16, 128, 1_024];
 const SAMPLES_OF_A_RUN: usize = 16;
 
 pub fn steps(settings: &Settings) {
-    heading("a step beside the single copy of the same input", "copy");
+    heading("a step beside the single copy of the same input", "ns", "copy");
     for shape in SHAPES {
         for kind in [Kind::OneId, Kind::ManyIds, Kind::LastOf32Rows] {
             for size in SIZES {
@@ -27,27 +28,12 @@ pub fn steps(settings: &Settings) {
 }
 
 pub fn runs(settings: &Settings) {
-    println!("\na run of steps of 64 KiB each, in picoseconds for each byte");
-    println!(
-        "{:<34}{:>10}{:>11}{:>11}{:>11}{:>15}{:>15}",
-        "", "bytes", "export ps", "second ps", "memcpy ps", "export/second", "export/memcpy"
-    );
+    heading("a run of steps of 64 KiB each, in picoseconds for each byte", "ps", "memcpy");
     for shape in SHAPES {
         for steps in STEPS {
-            show_run(&time_run(shape, steps, settings.repetitions.div_ceil(SAMPLES_OF_A_RUN)));
+            show(&time_run(shape, steps, settings.repetitions.div_ceil(SAMPLES_OF_A_RUN)));
         }
     }
-}
-
-fn show_run(line: &Line) {
-    let [export, second, plain] = line.medians.map(|median| 1_000.0 * median / line.bytes as f64);
-    println!(
-        "{:<34}{:>10}{export:>11.0}{second:>11.0}{plain:>11.0}{:>15.2}{:>15.2}",
-        line.name,
-        line.bytes,
-        export / second,
-        export / plain
-    );
 }
 
 /// One step of the export over all of an input, from a state and to it.
@@ -78,30 +64,37 @@ fn export_step(
     black_box(values)
 }
 
-/// One step of the second program over all of an input.
-fn second_step(input: &[u8], sheet: &[u8], state: &mut State, out: &mut [u8]) {
-    let stepped = steps::step(state, black_box(input), black_box(sheet), usize::MAX, out);
-    assert!(black_box(stepped).is_ok());
-    black_box(out);
+/// A step of the second program, by one of its forms.
+type Step = fn(&mut State, &[u8], &[u8], usize, &mut [u8]) -> Result<Stepped, Refusal>;
+
+/// So many steps of the second program, from no ids, each over all of an input.
+fn own_steps(step: Step, steps: usize, input: &[u8], sheet: &[u8], out: &mut [u8]) {
+    let mut state = State::new();
+    for _ in 0..steps {
+        let stepped = step(&mut state, black_box(input), black_box(sheet), usize::MAX, out);
+        good(stepped, out);
+    }
 }
 
-/// Times a first step over all of an input, by the export and by the second
+/// Times a first step over all of an input, by the export and by both forms of the second
 /// program, beside the export's single copy of it.
 fn time_step(shape: Shape, kind: Kind, size: usize, repetitions: usize) -> Line {
     let recording = recording(shape, kind, size);
     let sheet = sheet(kind);
     let length = recording.len();
-    let mut outs = [vec![0; length], vec![0; length], vec![0; length]];
-    let [export_out, second_out, copy_out] = &mut outs;
+    let mut outs = [(); 4].map(|()| vec![0; length]);
+    let [export_out, second_out, quick_out, copy_out] = &mut outs;
     let mut export = || {
         export_step(&recording, &sheet, &mut [0; STATE_WORDS], export_out);
     };
-    let mut second = || second_step(&recording, &sheet, &mut State::new(), second_out);
+    let mut second = || own_steps(steps::step, 1, &recording, &sheet, second_out);
+    let mut quick = || own_steps(quick::steps::step, 1, &recording, &sheet, quick_out);
     let mut copy = || {
         export_write(&recording, &sheet, copy_out);
     };
-    let medians = medians(repetitions, [&mut export, &mut second, &mut copy]);
-    assert!(outs[0] == outs[1] && outs[0] == outs[2], "the step and the copies differ");
+    let medians = medians(repetitions, [&mut export, &mut second, &mut quick, &mut copy]);
+    ask_equal(&outs);
+    assert!(outs[0] == outs[3], "the step and the copy differ");
     let name = format!("step, {}, {}", shape.name(), kind.name());
     Line { name, bytes: length, medians }
 }
@@ -112,8 +105,8 @@ fn time_run(shape: Shape, steps: usize, repetitions: usize) -> Line {
     let recording = recording(shape, Kind::ManyIds, 65_536);
     let sheet = sheet(Kind::ManyIds);
     let length = recording.len();
-    let mut outs = [vec![0; length], vec![0; length], vec![0; length]];
-    let [export_out, second_out, target] = &mut outs;
+    let mut outs = [(); 4].map(|()| vec![0; length]);
+    let [export_out, second_out, quick_out, target] = &mut outs;
     let written = export_write(&recording, &sheet, export_out)[1] as usize;
     let mut export = || {
         let mut state = [0; STATE_WORDS];
@@ -121,18 +114,16 @@ fn time_run(shape: Shape, steps: usize, repetitions: usize) -> Line {
             export_step(&recording, &sheet, &mut state, export_out);
         }
     };
-    let mut second = || {
-        let mut state = State::new();
-        for _ in 0..steps {
-            second_step(&recording, &sheet, &mut state, second_out);
-        }
-    };
+    let mut second = || own_steps(steps::step, steps, &recording, &sheet, second_out);
+    let mut quick = || own_steps(quick::steps::step, steps, &recording, &sheet, quick_out);
     let mut plain = || {
         for _ in 0..steps {
             memcpy(&recording[..written], target);
         }
     };
-    let medians = medians(repetitions, [&mut export, &mut second, &mut plain]);
-    assert!(outs[0] == outs[1], "the last steps of the two runs differ");
-    Line { name: format!("run, {}", shape.name()), bytes: steps * length, medians }
+    let medians = medians(repetitions, [&mut export, &mut second, &mut quick, &mut plain]);
+    ask_equal(&outs);
+    let bytes = steps * length;
+    let medians = medians.map(|median| 1_000.0 * median / bytes as f64);
+    Line { name: format!("run, {}", shape.name()), bytes, medians }
 }

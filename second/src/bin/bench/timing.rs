@@ -1,43 +1,49 @@
 //! The ways are timed in turn, and their medians shown side by side.
 
+use second::refusal::Refusal;
 use std::hint::black_box;
 use std::time::Instant;
 
 /// One sample takes about so many nanoseconds.
 const SAMPLE: f64 = 40_000.0;
 
-/// The medians of one scene, in nanoseconds: the export, the second program,
-/// the plain copy or what else is its measure.
+/// The medians of one scene: the export, the second program, its quick form, and the plain
+/// copy or what else is its measure.
 pub struct Line {
     pub name: String,
     pub bytes: usize,
-    pub medians: [f64; 3],
+    pub medians: [f64; 4],
 }
 
-/// The title of a part, and the heading of its lines; `plain` is the third way.
-pub fn heading(title: &str, plain: &str) {
-    println!("\n{title}");
-    println!(
-        "{:<44}{:>7}{:>11}{:>11}{:>11}{:>15}{:>15}",
-        "",
-        "bytes",
-        "export ns",
-        "second ns",
-        format!("{plain} ns"),
-        "export/second",
-        format!("export/{plain}")
-    );
+/// The title of a part, and the heading of its lines: the unit of their medians, and the
+/// name of the last way.
+pub fn heading(title: &str, unit: &str, plain: &str) {
+    print!("\n{title}\n{:<44}{:>10}", "", "bytes");
+    let ways = ["export", "second", "quick", plain];
+    ways.iter().for_each(|way| print!("{:>11}", format!("{way} {unit}")));
+    ways[1..].iter().for_each(|way| print!("{:>15}", format!("export/{way}")));
+    println!();
 }
 
 pub fn show(line: &Line) {
-    let [export, second, plain] = line.medians;
-    println!(
-        "{:<44}{:>7}{export:>11.0}{second:>11.0}{plain:>11.0}{:>15.2}{:>15.2}",
-        line.name,
-        line.bytes,
-        export / second,
-        export / plain
-    );
+    print!("{:<44}{:>10}", line.name, line.bytes);
+    let [export, others @ ..] = line.medians;
+    line.medians.iter().for_each(|median| print!("{median:>11.0}"));
+    others.iter().for_each(|median| print!("{:>15.2}", export / median));
+    println!();
+}
+
+/// Nothing may be refused while it is timed. The outcome and the bytes count as read, so that
+/// no work is left out.
+pub fn good<T>(outcome: Result<T, Refusal>, out: &mut [u8]) {
+    assert!(black_box(outcome).is_ok());
+    black_box(out);
+}
+
+/// The export, the second program and its quick form must leave the same bytes; theirs are
+/// the first three.
+pub fn ask_equal(outs: &[Vec<u8>]) {
+    assert!(outs[0] == outs[1] && outs[0] == outs[2], "the ways differ");
 }
 
 /// Times so many calls and gives the nanoseconds of one.
