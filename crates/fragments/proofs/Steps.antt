@@ -1,5 +1,5 @@
 -- The steps of joining: the state behind a word, the offset that a run says, and whether a fragment may stand where it stands.
-use Prim.Native.Nat.{ℕ, zero, suc, _+_, _-_, _%_, _≤_, _<_}
+use Prim.Native.Nat.{ℕ, zero, suc, _+_, _-_, _*_, _/_, _%_, _≤_, _<_, min}
 use mathlib.Core.Path.{_≡_, refl, sym, ap, _∙_}
 use mathlib.Core.Bool.{Bool, true, false, _&&_, _||_}
 use mathlib.Core.List.{List, _∷_, _++_}
@@ -8,8 +8,8 @@ use native.Mathlib.Nat.{add-zero, add-assoc}
 use native.Mathlib.Omega.{arith}
 use borrow.Author.Tests.{eq-eqb, ne-eqb, lt-ltb, le-ltb, eqb-true}
 use lib.Dec.{ltb, eqb, leb}
-use lib.ListN.{length, take, drop, length-append, drop-of-length-le, List·getD-append}
-use lib.Seq.{drop-cons, drop-append-add}
+use lib.ListN.{length, take, drop, length-append, length-drop, drop-of-length-le, List·getD-append}
+use lib.Seq.{drop-cons, drop-drop, drop-append-add}
 use Rattle.rules.specs.Bytes.{at, half, word, pad}
 use Rattle.rules.specs.Options.{lengthAllowed, optionSize, optionFits}
 use Rattle.rules.specs.Message.{Head, fragmentBits}
@@ -22,6 +22,7 @@ use Rattle.fragments.specs.Stored.{WholeOptions, offsetPlace, packageSte
 use Rattle.rules.specs.Items.{none, more}
 use Rattle.rules.specs.Options.{WholeOption}
 use Rattle.fragments.proofs.Options.{Run, made-of, opt-least}
+use Rattle.fragments.proofs.Scan.{skip-some}
 
 -- ---- the state
 
@@ -93,6 +94,22 @@ scan-on s st₀ st i {h} {l} {n} m w k e f g c z =
       same = w .same ∙ word-here s (st .state) i here ∙ rw (g, f, e);
       packages = w .packages ∙ ap (λ (x : ℕ). st .packages + x) (starts-here s (st .state) i here) ∙ rw (g, f, e, c) (sym (add-assoc (st .packages) (packageStart (st .state)) _));
       small = z;
+    }
+
+-- what is left of a package, or all that there is, is passed at once
+pub scan-over : (s : List ℕ) (st₀ st : Passed) (i n : ℕ) → length s % 4 ≡ 0 → Scanning s st₀ st i → n ≡ min (st .state / 4 * 4) (length s - i)
+    → Scanning s st₀ (record { state = st .state - n; packages = st .packages }) (i + n)
+scan-over s st₀ st i n m w e =
+    let words : n / 4 * 4 ≡ n = omega (arith, w .words, w .inside) in
+    let few : n ≤ st .state = omega arith in
+    let room : n ≤ length s - i = omega arith in
+    let (a, b) = skip-some (n / 4) (st .state) (drop i s) (omega arith) (omega (arith, length-drop i s)) in
+    record {
+      inside = omega (arith, w .inside);
+      words = omega (arith, w .words);
+      same = w .same ∙ rw (words, drop-drop n i s) at a;
+      packages = w .packages ∙ ap (λ (x : ℕ). st .packages + x) (rw (words, drop-drop n i s) at b);
+      small = omega (arith, w .small);
     }
 
 pub scan-ended : (s : List ℕ) (st₀ st : Passed) (i : ℕ) → Scanning s st₀ st i → length s ≤ i → st .state ≡ scan (st₀ .state) s

@@ -407,7 +407,25 @@ fn package_step(st: Passed, l: usize) -> Passed
     }
 }
 
-// The words of a run passed as well.
+// How many of n bytes are left of a package whose words are passed: whole words, of which nothing is looked at.
+fn rest_in(state: usize, n: usize) -> usize
+    ensures { λ r. ⌜ r ≡ min (state / 4 * 4) n ⌝ }
+{
+    least(state / 4 * 4, n)
+}
+
+// n bytes less are left of it.
+fn without(st: Passed, n: usize) -> Passed
+    requires { ⌜ n ≤ st .state ⌝ }
+    ensures { λ r. ⌜ r ≡ record { state = st .state - n; packages = st .packages } ⌝ }
+{
+    Passed {
+        state: st.state - n,
+        packages: st.packages,
+    }
+}
+
+// The words of a run passed as well. What is left of a package is passed at once.
 fn scan_run(run: &[u8], start: Passed) -> Passed
     requires { ⌜ (start .state < 4294967296) × (start .packages ≤ 65536) × (length (now run) % 4 ≡ 0) × (length (now run) ≤ 65536) ⌝ }
     ensures { λ r. ⌜ (r .state ≡ scan (start .state) (now (run .entry))) × (r .packages ≡ start .packages + starts (start .state) (now (run .entry))) × (r .state < 4294967296) ⌝ }
@@ -415,8 +433,14 @@ fn scan_run(run: &[u8], start: Passed) -> Passed
     let mut i = 0;
     let mut st = start;
     while i < run.len() {
-        st = package_step(st, wide16(wire::half_at(run, i)));
-        i += 4;
+        if 4 <= st.state {
+            let n = rest_in(st.state, run.len() - i);
+            st = without(st, n);
+            i += n;
+        } else {
+            st = package_step(st, wide16(wire::half_at(run, i)));
+            i += 4;
+        }
     }
     st
 }
