@@ -1,5 +1,5 @@
 -- What is stored of a capture file, one record behind the other.
-use Prim.Native.Nat.{ℕ, _+_, _-_, _*_, _/_, _≤_, _<_}
+use Prim.Native.Nat.{ℕ, zero, suc, _+_, _-_, _*_, _/_, _≤_, _<_}
 use mathlib.Core.Path.{_≡_, refl, ap, sym, subst, _∙_}
 use mathlib.Core.Bool.{Bool, true, false}
 use mathlib.Core.List.{List, [], _∷_, _++_, map, append-nil, append-assoc}
@@ -18,7 +18,7 @@ use Rattle.message.specs.Answers.{spotOfMessage}
 use Rattle.rules.specs.Buffer as answers
 use Rattle.rules.specs.Buffer.{stored, fitted}
 use Rattle.rules.specs.Clean.{cleanForm, cleaner}
-use Rattle.rules.proofs.Outcomes.{pass, step, stop, passed, stepped, good-inj, good≢bad}
+use Rattle.rules.proofs.Outcomes.{pass, step, stop, passed, stepped, fronted, front-of, good-inj, good≢bad}
 use Rattle.rules.proofs.Loops.{rest, Doing, doing-start, doing-next, doing-end, doing-bad, done-part}
 use Rattle.capture.specs.File.{big, Packet, recordIn, fileIn}
 use Rattle.capture.specs.Writing.{packetOf, datagram, datagrams, fileOf, writeStored, writeCapture}
@@ -199,6 +199,28 @@ checked s a b e =
     let (ms, r, _) = stepped _ _ (sym e) in
     let (l, _) = passed _ _ _ _ r in
     record { held = ms; reads = r; small = ltb-false _ _ l }
+
+-- each message whose packet is made was read
+all-read : (port k p : ℕ) (s : List ℕ) {ks : List Packet} → items (datagram port) k p s ≡ good ks → (ms : List rule.Message) × (items rule.message k p s ≡ good ms)
+unfolding items datagram
+all-read port k p [] e = ([], refl)
+all-read port (suc k) p (x ∷ s) e = all-read port k (suc p) s e
+all-read port zero p (x ∷ s) e =
+    let (t, h, f) = stepped _ _ e in
+    let (j, n, _) = fronted _ _ f in
+    let (r, g, d) = stepped _ _ h in
+    let (c, _, d) = stepped _ _ d in
+    let (_, z) = passed _ _ _ _ d in
+    let q : r .1 ≡ t .1 = ap (λ (y : Packet × ℕ). y .1) (good-inj z) in
+    let (ms, i) = all-read port (t .1 - 1) (suc p) s n in
+    (r .0 ∷ ms, step _ _ g (front-of _ _ (rw q i)))
+
+pub checked-by : (s : List ℕ) (port : ℕ) (t : Sums) → length s ≤ 65536 → good t ≡ weighed s port → Checked s
+unfolding weighed rule.recording
+checked-by s port t l e =
+    let (ks, r, _) = stepped _ _ (sym e) in
+    let (ms, i) = all-read port 0 0 s r in
+    record { held = ms; reads = pass _ _ _ _ (le-ltb 65536 (length s) l) i; small = l }
 
 module _ (s : List ℕ) (port : ℕ) (buffer : List ℕ) where
   refused-with : (n p : ℕ) → datagrams s port ≡ bad n p → (record { number = n; place = p; bytes = 0; messages = 0 }, buffer) ≡ writeCapture s port buffer

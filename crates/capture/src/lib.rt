@@ -558,23 +558,30 @@ pub enum CaptureWritten {
 pub fn write_capture(recording: &[u8], port: u16, out: &mut [u8]) -> CaptureWritten
     ensures { λ r. ⌜ toldWrite r (now (out .exit)) ≡ writeCapture (now (recording .entry)) port (now (out .entry)) ⌝ }
 {
-    match message::check(recording) {
-        Checked::Refused(f) => CaptureWritten::Refused(f),
-        Checked::Passed { messages, packages } => match weigh(recording) {
-            Weighed::Refused(f) => CaptureWritten::Refused(f),
-            Weighed::Fits(t) => {
-                if out.len() < t.bytes {
-                    return CaptureWritten::Refused(Refusal {
-                        why: Why::Room,
-                        place: t.bytes,
-                    });
-                }
-                lay(recording, port, out);
-                CaptureWritten::Done {
-                    bytes: t.bytes,
-                    messages: t.messages,
-                }
-            }
+    if 65536 < recording.len() {
+        return CaptureWritten::Refused(Refusal {
+            why: Why::Large,
+            place: 65536,
+        });
+    }
+    match weigh(recording) {
+        // A message that is refused comes before one whose clean form is too large, wherever it stands.
+        Weighed::Refused(f) => match message::check(recording) {
+            Checked::Refused(g) => CaptureWritten::Refused(g),
+            Checked::Passed { messages, packages } => CaptureWritten::Refused(f),
         },
+        Weighed::Fits(t) => {
+            if out.len() < t.bytes {
+                return CaptureWritten::Refused(Refusal {
+                    why: Why::Room,
+                    place: t.bytes,
+                });
+            }
+            lay(recording, port, out);
+            CaptureWritten::Done {
+                bytes: t.bytes,
+                messages: t.messages,
+            }
+        }
     }
 }
