@@ -37,6 +37,7 @@ use wire::put_bit;
 use wire::put_byte;
 use wire::put_part;
 use wire::put_word;
+use wire::word_at;
 
 // The granted packages of a message: how many, and the bytes that they take.
 struct Size {
@@ -402,9 +403,11 @@ fn write_package(run: &[u8], k: usize, p: Package, out: &mut [u8], at: usize)
 {
     let content = p.to - k;
     let size = p.next - k;
-    // The last word is stored as zeros first: what the package's own bytes leave of it is the padding, and no branch asks how long that is.
+    // The last word is stored as zeros first: what the package's own bytes leave of it is the padding, and no branch asks how long that is. The first
+    // word is stored by itself: stored with the others, a package without data took half as long again.
     put_word(out, at + (size - 4), 0);
-    put_part(out, at, run, k, content);
+    put_word(out, at, word_at(run, k));
+    put_part(out, at + 4, run, k + 4, content - 4);
     put_byte(out, at + 6, 0);
 }
 

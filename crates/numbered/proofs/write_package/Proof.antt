@@ -1,5 +1,7 @@
--- `numbered::write_package` meets its contract: the three stores are the package.
+-- `numbered::write_package` meets its contract: the four stores are the package.
+use native.Mathlib.Omega.{arith}
 use borrow.Author.Needs.{needs}
+use Rattle.rules.proofs.Claims.{premises-met}
 use Rattle.numbered.proofs.Stores.{package-all}
 use Rattle.numbered.proofs.write_package.Statement.{statement}
 use Rattle.numbered.proofs.write_package.Tie as tie
@@ -19,6 +21,21 @@ add-put-word c = search needs
 put-word-requires : tie.Need-put-word-requires
 put-word-requires c κs = search needs
 
+word-at-requires : tie.Need-word-at-requires
+word-at-requires c κs = search needs
+
+put-word-requires-2 : tie.Need-put-word-requires-2
+put-word-requires-2 c κs = search needs
+
+add-put-part : tie.Need-add-put-part
+add-put-part c = search needs
+
+add-put-part-2 : tie.Need-add-put-part-2
+add-put-part-2 c = search needs
+
+sub-put-part : tie.Need-sub-put-part
+sub-put-part c = search needs
+
 put-part-requires : tie.Need-put-part-requires
 put-part-requires c κs = search needs
 
@@ -33,8 +50,9 @@ same-length c = search needs
 
 returns : tie.Need-returns
 returns c =
-    let s = c .before .before .before .before .before .before .before .before .before .before .before .before .before .before .before .before in
-    package-all (s .args .run .now) (s .args .k) (s .args .p) (s .args .out .now) (s .args .at) (s .pre .1) (c .before .before .before .before .before .before .before .before .before .before .put-word .ensures) (c .before .before .before .before .before .before .put-part .ensures) (c .before .before .put-byte .ensures)
+    let s = c .before .before .before .before .before .before .before .before .before .before .before .before .before .before .before .before .before .before .before .before .before in
+    package-all (s .args .run .now) (s .args .k) (s .args .p) (s .args .out .now) (s .args .at) (s .pre .1) (premises-met .bytes _ (λ k. omega (arith, c .before .before .before .before .before .before .before .before .before .before .before .before .before .before .before .before .before .before .before .before .shared-slice-known .given k)))
+    (c .before .before .before .before .before .before .before .before .before .before .before .word-at .ensures) (c .before .before .before .before .before .before .before .before .before .before .before .before .before .before .before .put-word .ensures) (c .before .before .before .before .before .before .before .before .before .before .put-word2 .ensures) (c .before .before .before .before .before .before .put-part .ensures) (c .before .before .put-byte .ensures)
 
 pub write-package-spec : {M : Type 1} → statement M
 write-package-spec =
@@ -45,6 +63,11 @@ write-package-spec =
     sub-put-word
     add-put-word
     put-word-requires
+    word-at-requires
+    put-word-requires-2
+    add-put-part
+    add-put-part-2
+    sub-put-part
     put-part-requires
     add-put-byte
     put-byte-requires
