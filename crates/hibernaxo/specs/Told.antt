@@ -3,9 +3,9 @@ use Prim.Native.Nat.{ℕ, zero, suc, _+_, _-_, _*_, _%_, _^_}
 use mathlib.Core.Bool.{Bool, true, false}
 use mathlib.Core.List.{List, [], _∷_, _++_, map}
 use mathlib.Core.Option.{Option, none, some}
-use lib.ListN.{getD, drop, replicate}
+use lib.ListN.{getD, replicate}
 use Rattle.rules.specs.Outcome.{Outcome, good, bad}
-use Rattle.rules.specs.Bytes.{at, join}
+use Rattle.rules.specs.Bytes.{join}
 use Rattle.rules.specs.Packages.{packageHeader}
 use Rattle.rules.specs.Message.{Head, headerBytes}
 use Rattle.rules.specs.Walk.{PackageSpot}
@@ -18,7 +18,6 @@ use Rattle.numbered.specs.Numbering.{State}
 use Rattle.numbered.specs.Quota.{Report}
 use Rattle.fragments.specs.Cutting.{CutAnswer}
 use Rattle.ids.specs.Reader.{Range, mostItems}
-use Rattle.ids.specs.declared.IdRange.{IdRange}
 use Rattle.salvage.specs.Salvage as salvage
 use Rattle.capture.specs.Reading.{ReadAnswer}
 use Rattle.capture.specs.Writing.{WriteAnswer}
@@ -119,11 +118,6 @@ rangeValues r = r .first ∷ r .last ∷ []
 abbrev pub idsTold : Outcome (List Range × ℕ) → ℕ × List ℕ
 idsTold (bad n p) = (n, refusedAt p (1 + 2 * mostItems))
 idsTold (good (ranges, count)) = (0, 0 ∷ count ∷ join (map rangeValues ranges))
-
--- the n ranges of which a caller hands over the ends, first and last in turn
-unfoldable pub rangesIn : ℕ → List ℕ → List IdRange
-rangesIn zero ends = []
-rangesIn (suc n) ends = record { first = at ends 0; last = at ends 1 } ∷ rangesIn n (drop 2 ends)
 
 -- a salvage: bytes, messages and how many stretches were skipped, and start and length of each
 abbrev pub stretchValues : salvage.Stretch → List ℕ

@@ -59,7 +59,7 @@ ghost use Rattle.step.specs.Step as rule;
 ghost use Rattle.step.specs.Told.{stateIn};
 ghost use Rattle.ids.specs.Reader.{readIds};
 ghost use Rattle.ids.specs.Writer.{writeIds};
-ghost use Rattle.ids.specs.Told.{rangeIn, handedOver};
+ghost use Rattle.ids.specs.Told.{rangeIn, handedOver, rangesIn};
 ghost use Rattle.salvage.specs.Salvage as salvage;
 ghost use Rattle.salvage.specs.Told as salvaged;
 ghost use Rattle.capture.specs.Reading.{readCapture};
@@ -68,7 +68,7 @@ ghost use Rattle.capture.specs.Told.{numbersRead, numbersWritten};
 ghost use Rattle.radio.specs.Radio.{radioRead, tlvAt, radioWriter};
 ghost use Rattle.radio.specs.Row.{linkRow};
 ghost use Rattle.hibernaxo.specs.Radio as radios;
-ghost use Rattle.hibernaxo.specs.Told.{headerTold, stepTold, checkTold, draft, writtenValues, writtenTold, rowValues, sheetTold, answerValues, copyTold, numbersFrom, stateAt, stateValues, reportValues, steppedTold, randomizedTold, openedTold, rangeValues, idsTold, rangesIn, stretchValues, salvageValues, salvageTold, readValues, readTold, sentValues, sentTold, cutValues, cutTold};
+ghost use Rattle.hibernaxo.specs.Told.{headerTold, stepTold, checkTold, draft, writtenValues, writtenTold, rowValues, sheetTold, answerValues, copyTold, numbersFrom, stateAt, stateValues, reportValues, steppedTold, randomizedTold, openedTold, rangeValues, idsTold, stretchValues, salvageValues, salvageTold, readValues, readTold, sentValues, sentTold, cutValues, cutTold};
 
 // The number of a refusal.
 fn number_in(x: Refusal) -> u32
@@ -526,23 +526,6 @@ pub extern "C" fn hibernaxo_read_ids(line: &[u8], values: &mut [u64; 66]) -> u32
     }
 }
 
-// 32 ranges from their ends, first and last in turn.
-fn ranges_in(ends: &[u32; 64]) -> [IdRange; 32]
-    ensures { λ r. ⌜ r ≡ rangesIn 32 (now (ends .entry)) ⌝ }
-{
-    let none = IdRange { first: 0, last: 0 };
-    let mut ranges = [none; 32];
-    let mut i = 0;
-    while i < 32 {
-        ranges[i] = IdRange {
-            first: ends[2 * i],
-            last: ends[2 * i + 1],
-        };
-        i += 1;
-    }
-    ranges
-}
-
 // Ranges written as a line: bytes.
 #[no_mangle]
 pub extern "C" fn hibernaxo_write_ids(
@@ -553,8 +536,7 @@ pub extern "C" fn hibernaxo_write_ids(
 ) -> u32
     ensures { λ r. ⌜ (r, now (values .exit), now (out .exit)) ≡ writtenTold (writeIds (handedOver count (rangesIn 32 (now (ends .entry)))) (now (out .entry))) ⌝ }
 {
-    let ranges = ranges_in(ends);
-    let a = ids::write_ids(ranges, count, out);
+    let a = ids::write_ends(ends, count, out);
     put_written(a, values)
 }
 

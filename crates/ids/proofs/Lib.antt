@@ -10,5 +10,6 @@ pub mod Claims
 pub mod Counting
 pub mod Steps
 pub mod Reading
+pub mod Ends
 pub mod Writing
 pub mod Same

@@ -17,7 +17,7 @@ use Rattle.ids.specs.Line.{Item, comma}
 use Rattle.ids.specs.Reader.{Range, mostItems, noRange, itemFits, itemAt, listAt, rangesOf, idRanges, handedOut, readIds, shownRanges}
 use Rattle.ids.specs.Claims.{rangeOf}
 use Rattle.ids.specs.Told.{rangeIn, answer, told}
-use Rattle.ids.specs.Parts.{restAt, formOf, readOn, faultAt, pairFits, rangesIn, withRange, Held, lineTold, noIds}
+use Rattle.ids.specs.Parts.{restAt, formOf, readOn, faultAt, pairFits, heldRanges, withRange, Held, lineTold, noIds}
 use Rattle.rules.proofs.Growing.{map-append}
 use Rattle.ids.specs.declared.IdRange.{IdRange}
 use Rattle.ids.specs.declared.LineRead.{LineRead}
@@ -73,29 +73,29 @@ fault-bad p q (bad n r) e = let (a, b) = bad-inj e in rw (a, b)
 -- ---- the ranges that are held
 
 -- numbers of ranges: how many ranges they are, those behind the first n, and those that are all zero
-pairs-length : (k : ℕ) (l : List ℕ) → length l ≡ 2 * k → length (rangesIn l) ≡ k
-unfolding rangesIn
+pairs-length : (k : ℕ) (l : List ℕ) → length l ≡ 2 * k → length (heldRanges l) ≡ k
+unfolding heldRanges
 pairs-length zero [] e = refl
 pairs-length zero (a ∷ l) e = absurd (omega arith)
 pairs-length (suc k) [] e = absurd (omega arith)
 pairs-length (suc k) (a ∷ []) e = absurd (omega arith)
 pairs-length (suc k) (a ∷ b ∷ l) e = ap suc (pairs-length k l (omega arith))
 
-pairs-behind : (n : ℕ) (l : List ℕ) → drop n (rangesIn l) ≡ rangesIn (drop (2 * n) l)
-unfolding rangesIn
+pairs-behind : (n : ℕ) (l : List ℕ) → drop n (heldRanges l) ≡ heldRanges (drop (2 * n) l)
+unfolding heldRanges
 pairs-behind zero l = refl
-pairs-behind (suc n) [] = ap rangesIn (sym (drop-nil (2 * suc n)))
-pairs-behind (suc n) (a ∷ []) = let z : 2 * suc n ≡ suc (suc (2 * n)) = omega arith in rw z (ap rangesIn (sym (drop-nil (suc (2 * n)))))
+pairs-behind (suc n) [] = ap heldRanges (sym (drop-nil (2 * suc n)))
+pairs-behind (suc n) (a ∷ []) = let z : 2 * suc n ≡ suc (suc (2 * n)) = omega arith in rw z (ap heldRanges (sym (drop-nil (suc (2 * n)))))
 pairs-behind (suc n) (a ∷ b ∷ l) = let z : 2 * suc n ≡ suc (suc (2 * n)) = omega arith in rw z (pairs-behind n l)
 
-pairs-zero : (k : ℕ) → rangesIn (replicate (2 * k) 0) ≡ replicate k noRange
-unfolding rangesIn
+pairs-zero : (k : ℕ) → heldRanges (replicate (2 * k) 0) ≡ replicate k noRange
+unfolding heldRanges
 pairs-zero zero = refl
 pairs-zero (suc k) = let z : 2 * suc k ≡ suc (suc (2 * k)) = omega arith in rw z (ap (λ (l : List Range). noRange ∷ l) (pairs-zero k))
 
 -- one more
-pairs-more : (n : ℕ) (l : List ℕ) (a b : ℕ) → 2 * n + 1 < length l → take (n + 1) (rangesIn (withRange l n a b)) ≡ take n (rangesIn l) ++ (record { first = a; last = b } ∷ [])
-unfolding rangesIn
+pairs-more : (n : ℕ) (l : List ℕ) (a b : ℕ) → 2 * n + 1 < length l → take (n + 1) (heldRanges (withRange l n a b)) ≡ take n (heldRanges l) ++ (record { first = a; last = b } ∷ [])
+unfolding heldRanges
 pairs-more n [] a b h = absurd (omega arith)
 pairs-more n (x ∷ []) a b h = absurd (omega arith)
 pairs-more zero (x ∷ y ∷ l) a b h = refl
@@ -110,15 +110,15 @@ held-start = record { few = omega arith; long = refl; behind = refl }
 
 module _ (numbers : List ℕ) (n : ℕ) (held : Held numbers n) where
   abbrev seen : List Range
-  seen = take n (rangesIn numbers)
+  seen = take n (heldRanges numbers)
 
   seen-length : length seen ≡ n
-  seen-length = length-take-le n (rangesIn numbers) (omega (arith, pairs-length 32 numbers (held .long), held .few))
+  seen-length = length-take-le n (heldRanges numbers) (omega (arith, pairs-length 32 numbers (held .long), held .few))
 
-  pub held-told : good (rangesIn numbers, n) ≡ good (handedOut seen)
+  pub held-told : good (heldRanges numbers, n) ≡ good (handedOut seen)
   held-told =
-      let m : rangesIn numbers ≡ seen ++ replicate (mostItems - length seen) noRange =
-      sym (take-append-drop n (rangesIn numbers)) ∙ rw (seen-length, pairs-behind, held .behind, pairs-zero) in
+      let m : heldRanges numbers ≡ seen ++ replicate (mostItems - length seen) noRange =
+      sym (take-append-drop n (heldRanges numbers)) ∙ rw (seen-length, pairs-behind, held .behind, pairs-zero) in
       rw (← m, seen-length)
 
   module _ (h : n < 32) (a b : ℕ) where
@@ -132,7 +132,7 @@ module _ (numbers : List ℕ) (n : ℕ) (held : Held numbers n) where
           behind = rw (z, drop-set-lt (2 * n + 2) (set numbers (2 * n) a) (2 * n + 1) b (omega arith), drop-set-lt (2 * n + 2) numbers (2 * n) a (omega arith), ← drop-drop 2 (2 * n) numbers, held .behind, k);
         }
 
-    seen-next : take (n + 1) (rangesIn (withRange numbers n a b)) ≡ seen ++ (record { first = a; last = b } ∷ [])
+    seen-next : take (n + 1) (heldRanges (withRange numbers n a b)) ≡ seen ++ (record { first = a; last = b } ∷ [])
     seen-next = pairs-more n numbers a b (omega (arith, held .long))
 
   -- the item at place p, and what is answered
@@ -161,14 +161,14 @@ module _ (numbers : List ℕ) (n : ℕ) (held : Held numbers n) where
       unfolding itemFits
       unfit t = faulty (rw t)
 
-      pub item-kept : n < 32 → pairFits a b ≡ true → readOn (take (n + 1) (rangesIn (withRange numbers n a b))) (restAt (p + k) (drop (p + k) s)) ≡ asked
+      pub item-kept : n < 32 → pairFits a b ≡ true → readOn (take (n + 1) (heldRanges (withRange numbers n a b))) (restAt (p + k) (drop (p + k) s)) ≡ asked
       unfolding itemFits
       item-kept h f =
           let t : (not (itemFits it) || leb mostItems (length seen)) ≡ false = rw (seen-length, f, lt-leb mostItems n h) in
           rw (seen-next h a b) (sym (ap (readOn seen) (list-then s p it k e) ∙ read-next seen it t _))
 
     -- what follows the last item that was read
-    pub line-ended : p ≡ length s → good (rangesIn numbers, n) ≡ readOn seen (restAt p (drop p s))
+    pub line-ended : p ≡ length s → good (heldRanges numbers, n) ≡ readOn seen (restAt p (drop p s))
     line-ended z = held-told ∙ sym (read-end seen _ (rest-none s p (omega arith)))
 
     pub no-comma : p < length s → (at s p ≡ comma → ⊥) → bad TEXT p ≡ readOn seen (restAt p (drop p s))
@@ -182,14 +182,14 @@ module _ (numbers : List ℕ) (n : ℕ) (held : Held numbers n) where
 -- the first i are there, and those behind them are zero
 pub record Filled (numbers : List ℕ) (ranges : List IdRange) (i : ℕ) : Type 0 where
   pub done : List IdRange
-  pub are : map rangeIn done ≡ take i (rangesIn numbers)
+  pub are : map rangeIn done ≡ take i (heldRanges numbers)
   pub many : length done ≡ i
   pub all : ranges ≡ done ++ replicate (32 - i) noIds
 
 pub filled-start : (numbers : List ℕ) → Filled numbers (replicate 32 noIds) 0
 filled-start numbers = record { done = []; are = refl; many = refl; all = refl }
 
-pair-at : (i : ℕ) (l : List ℕ) → 2 * i + 1 < length l → take (i + 1) (rangesIn l) ≡ take i (rangesIn l) ++ (record { first = getD l (2 * i) 0; last = getD l (2 * i + 1) 0 } ∷ [])
+pair-at : (i : ℕ) (l : List ℕ) → 2 * i + 1 < length l → take (i + 1) (heldRanges l) ≡ take i (heldRanges l) ++ (record { first = getD l (2 * i) 0; last = getD l (2 * i + 1) 0 } ∷ [])
 pair-at i l h = rw (set-getD, set-getD) at (pairs-more i l (getD l (2 * i) 0) (getD l (2 * i + 1) 0) h)
 
 module _ (numbers : List ℕ) (ranges : List IdRange) (i : ℕ) (long : length numbers ≡ 64) where
@@ -204,16 +204,16 @@ module _ (numbers : List ℕ) (ranges : List IdRange) (i : ℕ) (long : length n
         all = rw (w .all, z) (set-at (w .done) noIds (replicate (32 - (i + 1)) noIds) r i (w .many) ∙ sym (append-assoc (w .done) (r ∷ []) _));
       }
 
-  pub filled-all : 32 ≤ i → Filled numbers ranges i → map rangeIn ranges ≡ rangesIn numbers
+  pub filled-all : 32 ≤ i → Filled numbers ranges i → map rangeIn ranges ≡ heldRanges numbers
   filled-all h w =
       let z : 32 - i ≡ 0 = omega arith in
       let e : ranges ≡ w .done = w .all ∙ rw z (append-nil (w .done)) in
-      ap (map rangeIn) e ∙ w .are ∙ take-all i (rangesIn numbers) (omega (arith, pairs-length 32 numbers long))
+      ap (map rangeIn) e ∙ w .are ∙ take-all i (heldRanges numbers) (omega (arith, pairs-length 32 numbers long))
 
 pub heard : {r r′ : LineRead} (numbers : List ℕ) {o : Outcome (List Range × ℕ)} → r ≡ r′ → lineTold r′ numbers ≡ o → lineTold r numbers ≡ o
 heard numbers e f = ap (λ (x : LineRead). lineTold x numbers) e ∙ f
 
-pub handed : (numbers : List ℕ) (ranges : List IdRange) (k : ℕ) → map rangeIn ranges ≡ rangesIn numbers → told (record { answer = Answer.Good; ranges = ranges; count = k }) ≡ answer (good (rangesIn numbers, k))
+pub handed : (numbers : List ℕ) (ranges : List IdRange) (k : ℕ) → map rangeIn ranges ≡ heldRanges numbers → told (record { answer = Answer.Good; ranges = ranges; count = k }) ≡ answer (good (heldRanges numbers, k))
 unfolding shownRanges
 handed numbers ranges k e = rw e
 

@@ -58,10 +58,10 @@ abbrev pub pairFits : ℕ → ℕ → Bool
 pairFits a b = itemFits (record { place = 0; first = a; last = b })
 
 -- the ranges that numbers stand for, first and last of each in turn; and such numbers with a range at index n
-unfoldable pub rangesIn : List ℕ → List Range
-rangesIn [] = []
-rangesIn (a ∷ []) = []
-rangesIn (a ∷ b ∷ l) = record { first = a; last = b } ∷ rangesIn l
+unfoldable pub heldRanges : List ℕ → List Range
+heldRanges [] = []
+heldRanges (a ∷ []) = []
+heldRanges (a ∷ b ∷ l) = record { first = a; last = b } ∷ heldRanges l
 
 abbrev pub withRange : List ℕ → ℕ → ℕ → ℕ → List ℕ
 withRange l n a b = set (set l (2 * n) a) (2 * n + 1) b
@@ -74,7 +74,7 @@ pub record Held (numbers : List ℕ) (n : ℕ) : Type 0 where
 
 -- what the readers come to, with the numbers after it
 abbrev pub lineTold : LineRead → List ℕ → Outcome (List Range × ℕ)
-lineTold (Line.Ranges n) numbers = good (rangesIn numbers, n)
+lineTold (Line.Ranges n) numbers = good (heldRanges numbers, n)
 lineTold (Line.Refused f) numbers = refused f
 
 -- a range of the code that is all zero

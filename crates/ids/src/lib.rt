@@ -9,15 +9,15 @@ use wire::put_byte;
 ghost use mathlib.Core.Path.{_≡_};
 ghost use mathlib.Core.List.{List, map};
 ghost use Prim.Native.Nat.{ℕ, _+_, _%_, _≤_, _<_};
-ghost use lib.ListN.{length, take, drop};
+ghost use lib.ListN.{length, getD, take, drop};
 ghost use lib.Seq.{sets};
 ghost use Rattle.refusal.specs.Numbers.{refused};
 ghost use Rattle.ids.specs.Line.{decimal};
 ghost use Rattle.ids.specs.Reader.{isDigit, digits, itemAt, listAt, readIds};
 ghost use Rattle.ids.specs.Writer.{idText, itemText, lineText, rangesKept, writeIds};
 ghost use Rattle.compose.specs.Told as compose;
-ghost use Rattle.ids.specs.Told.{rangeIn, answer, told, handedOver};
-ghost use Rattle.ids.specs.Parts.{toldItem, restAt, toldForm, formOf, pairFits, rangesIn, withRange, Held, lineTold, readOn, faultAt, noIds, toldOrder};
+ghost use Rattle.ids.specs.Told.{rangeIn, answer, told, handedOver, rangesIn};
+ghost use Rattle.ids.specs.Parts.{toldItem, restAt, toldForm, formOf, pairFits, heldRanges, withRange, Held, lineTold, readOn, faultAt, noIds, toldOrder};
 
 // An inclusive range of ids.
 pub struct IdRange {
@@ -192,7 +192,7 @@ fn put_range(numbers: &mut [u32], n: usize, first: u32, last: u32)
 // The item reader: an item stands at place `at`, n ranges are read before it, and the list reader goes on behind it.
 fn read_item(s: &[u8], at: usize, numbers: &mut [u32], n: usize) -> LineRead
     requires { ⌜ (at ≤ length (now s)) × Held (now numbers) n ⌝ }
-    ensures { λ r. ⌜ lineTold r (now (numbers .exit)) ≡ readOn (take n (rangesIn (now (numbers .entry)))) (listAt 0 at (drop at (now (s .entry)))) ⌝ }
+    ensures { λ r. ⌜ lineTold r (now (numbers .exit)) ≡ readOn (take n (heldRanges (now (numbers .entry)))) (listAt 0 at (drop at (now (s .entry)))) ⌝ }
 {
     match item_at(s, at) {
         ItemRead::Broken(q) => refuse(q),
@@ -213,7 +213,7 @@ fn read_item(s: &[u8], at: usize, numbers: &mut [u32], n: usize) -> LineRead
 // The list reader: n ranges are read, the last of them up to place `at`. It stands alone there, or a comma follows and the item reader goes on.
 fn read_list(s: &[u8], at: usize, numbers: &mut [u32], n: usize) -> LineRead
     requires { ⌜ (at ≤ length (now s)) × Held (now numbers) n ⌝ }
-    ensures { λ r. ⌜ lineTold r (now (numbers .exit)) ≡ readOn (take n (rangesIn (now (numbers .entry)))) (restAt at (drop at (now (s .entry)))) ⌝ }
+    ensures { λ r. ⌜ lineTold r (now (numbers .exit)) ≡ readOn (take n (heldRanges (now (numbers .entry)))) (restAt at (drop at (now (s .entry)))) ⌝ }
 {
     if at == s.len() {
         return LineRead::Ranges(n);
@@ -234,7 +234,7 @@ fn no_ids() -> IdRange
 // The ranges of which first and last are lent.
 fn ranges_of(numbers: &[u32]) -> [IdRange; 32]
     requires { ⌜ length (now numbers) ≡ 64 ⌝ }
-    ensures { λ r. ⌜ map rangeIn r ≡ rangesIn (now (numbers .entry)) ⌝ }
+    ensures { λ r. ⌜ map rangeIn r ≡ heldRanges (now (numbers .entry)) ⌝ }
 {
     let mut ranges = [no_ids(); 32];
     let mut i: usize = 0;
@@ -336,16 +336,29 @@ enum Order {
     Bad(usize),
 }
 
+// The range with index i, of ranges of which first and last are lent.
+fn range_at(ends: &[u32], i: usize) -> IdRange
+    requires { ⌜ (i < 32) × (length (now ends) ≡ 64) ⌝ }
+    ensures { λ r. ⌜ r ≡ getD (rangesIn 32 (now (ends .entry))) i noIds ⌝ }
+{
+    let at = 2 * i;
+    IdRange {
+        first: ends[at],
+        last: ends[at + 1],
+    }
+}
+
 // No range is inverted, and none is the 33rd.
-fn order_of(ranges: [IdRange; 32], n: usize) -> Order
-    ensures { λ r. ⌜ toldOrder r ≡ rangesKept 0 (handedOver n ranges) ⌝ }
+fn order_of(ends: &[u32], n: usize) -> Order
+    requires { ⌜ length (now ends) ≡ 64 ⌝ }
+    ensures { λ r. ⌜ toldOrder r ≡ rangesKept 0 (handedOver n (rangesIn 32 (now (ends .entry)))) ⌝ }
 {
     let mut i: usize = 0;
     while i < n {
         if i == 32 {
             return Order::Bad(i);
         }
-        let r = ranges[i];
+        let r = range_at(ends, i);
         if r.last < r.first {
             return Order::Bad(i);
         }
@@ -355,36 +368,36 @@ fn order_of(ranges: [IdRange; 32], n: usize) -> Order
 }
 
 // How many bytes the line of the first n ranges has.
-fn line_len(ranges: [IdRange; 32], n: usize) -> usize
-    requires { ⌜ (1 ≤ n) × (n ≤ 32) ⌝ }
-    ensures { λ r. ⌜ r ≡ length (lineText (map rangeIn (take n ranges))) ⌝ }
+fn line_len(ends: &[u32], n: usize) -> usize
+    requires { ⌜ (1 ≤ n) × (n ≤ 32) × (length (now ends) ≡ 64) ⌝ }
+    ensures { λ r. ⌜ r ≡ length (lineText (map rangeIn (take n (rangesIn 32 (now (ends .entry)))))) ⌝ }
 {
-    let mut len = item_len(ranges[0]);
+    let mut len = item_len(range_at(ends, 0));
     let mut i: usize = 1;
     while i < n {
-        len = len + 1 + item_len(ranges[i]);
+        len = len + 1 + item_len(range_at(ends, i));
         i += 1;
     }
     len
 }
 
 // Stores the line of the first n ranges.
-fn put_line(out: &mut [u8], ranges: [IdRange; 32], n: usize)
-    requires { ⌜ (1 ≤ n) × (n ≤ 32) ⌝ }
-    ensures { λ _. ⌜ now (out .exit) ≡ sets (now (out .entry)) 0 (lineText (map rangeIn (take n ranges))) ⌝ }
+fn put_line(out: &mut [u8], ends: &[u32], n: usize)
+    requires { ⌜ (1 ≤ n) × (n ≤ 32) × (length (now ends) ≡ 64) ⌝ }
+    ensures { λ _. ⌜ now (out .exit) ≡ sets (now (out .entry)) 0 (lineText (map rangeIn (take n (rangesIn 32 (now (ends .entry)))))) ⌝ }
 {
-    let mut at = put_item(out, 0, ranges[0]);
+    let mut at = put_item(out, 0, range_at(ends, 0));
     let mut i: usize = 1;
     while i < n {
         put_byte(out, at, 44);
-        at = put_item(out, at + 1, ranges[i]);
+        at = put_item(out, at + 1, range_at(ends, i));
         i += 1;
     }
 }
 
-// Writes ranges as a line, the first `count` of the array. A 33rd is refused, whatever it would be.
-pub fn write_ids(ranges: [IdRange; 32], count: usize, out: &mut [u8]) -> Written
-    ensures { λ r. ⌜ compose.told r (now (out .exit)) ≡ writeIds (handedOver count ranges) (now (out .entry)) ⌝ }
+// Writes ranges as a line, the first `count` of those of which first and last are lent. A 33rd is refused, whatever it would be.
+pub fn write_ends(ends: &[u32; 64], count: usize, out: &mut [u8]) -> Written
+    ensures { λ r. ⌜ compose.told r (now (out .exit)) ≡ writeIds (handedOver count (rangesIn 32 (now (ends .entry)))) (now (out .entry)) ⌝ }
 {
     if count == 0 {
         return Written::Refused(Refusal {
@@ -392,21 +405,43 @@ pub fn write_ids(ranges: [IdRange; 32], count: usize, out: &mut [u8]) -> Written
             place: 0,
         });
     }
-    match order_of(ranges, count) {
+    match order_of(ends, count) {
         Order::Bad(i) => Written::Refused(Refusal {
             why: Why::Text,
             place: i,
         }),
         Order::Kept => {
-            let bytes = line_len(ranges, count);
+            let bytes = line_len(ends, count);
             if out.len() < bytes {
                 return Written::Refused(Refusal {
                     why: Why::Room,
                     place: bytes,
                 });
             }
-            put_line(out, ranges, count);
+            put_line(out, ends, count);
             Written::Done { bytes }
         }
     }
+}
+
+// First and last of 32 ranges, in turn.
+fn ends_of(ranges: [IdRange; 32]) -> [u32; 64]
+    ensures { λ r. ⌜ rangesIn 32 r ≡ ranges ⌝ }
+{
+    let mut ends = [0u32; 64];
+    let mut i: usize = 0;
+    while i < 32 {
+        let r = ranges[i];
+        put_range(&mut ends, i, r.first, r.last);
+        i += 1;
+    }
+    ends
+}
+
+// Writes ranges as a line, the first `count` of the array.
+pub fn write_ids(ranges: [IdRange; 32], count: usize, out: &mut [u8]) -> Written
+    ensures { λ r. ⌜ compose.told r (now (out .exit)) ≡ writeIds (handedOver count ranges) (now (out .entry)) ⌝ }
+{
+    let ends = ends_of(ranges);
+    write_ends(&ends, count, out)
 }

@@ -6,11 +6,8 @@ use Rattle.hibernaxo.proofs.Buffers.{with-buffer}
 use Rattle.hibernaxo.proofs.hibernaxo_write_ids.Statement.{statement}
 use Rattle.hibernaxo.proofs.hibernaxo_write_ids.Tie as tie
 
-ranges-in-requires : tie.Need-ranges-in-requires
-ranges-in-requires c κs = search needs
-
-write-ids-requires : tie.Need-write-ids-requires
-write-ids-requires c κs = search needs
+write-ends-requires : tie.Need-write-ends-requires
+write-ends-requires c κs = search needs
 
 put-written-requires : tie.Need-put-written-requires
 put-written-requires c κs = search needs
@@ -19,7 +16,7 @@ same-length : tie.Need-same-length
 same-length c = search needs
 
 returns : tie.Need-returns
-returns c = with-buffer writtenValues (numbers (c .before .before .before .before .write-ids .result)) _ (c .put-written .ensures) (rw (c .before .before .before .before .before .before .ranges-in .ensures) at (c .before .before .before .before .write-ids .ensures))
+returns c = with-buffer writtenValues (numbers (c .before .before .before .before .write-ends .result)) _ (c .put-written .ensures) (c .before .before .before .before .write-ends .ensures)
 
 pub hibernaxo-write-ids-spec : {M : Type 1} → statement M
-hibernaxo-write-ids-spec = tie.close (tie.spec ranges-in-requires write-ids-requires put-written-requires same-length returns)
+hibernaxo-write-ids-spec = tie.close (tie.spec write-ends-requires put-written-requires same-length returns)
