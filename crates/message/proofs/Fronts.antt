@@ -21,7 +21,6 @@ use Rattle.rules.proofs.Loops.{rest}
 use Rattle.rules.proofs.Shifted.{shifted, shifted-cut}
 use Rattle.rules.proofs.Passed.{Sound, sound}
 use Rattle.rules.proofs.Run.{run-ends}
-use Rattle.refusal.specs.declared.Refusal.{Refusal}
 use Rattle.refusal.specs.declared.Why.the-variants as why
 use Rattle.message.proofs.Checks.{no-numbers}
 use Rattle.message.proofs.Headers.{run-behind, run-inside, header-sound, Headed, short-run, same-checks, headed}
@@ -224,9 +223,6 @@ module _ (p : ℕ) (s : List ℕ) (h : Head) where
 pub front-stopped : (s : List ℕ) (k : ℕ) {n q : ℕ} → bad n q ≡ frontAt s k → bad n q ≡ messageAt s k
 unfolding frontAt messageAt
 front-stopped s k e = sym (refused-alike _ _ _ _ _ (λ z. stop _ _ (not-nine-not-every k (drop k s) (head (drop k s)) (refused-only _ _ z))) (sym e))
-
-pub front-refused : (s : List ℕ) (k : ℕ) (f : Refusal) → toldHeader (headerRead.Refused f) ≡ frontAt s k → toldMessage (messageRead.Refused f) ≡ messageAt s k
-front-refused s k f e = front-stopped s k e
 
 -- one that passes them
 pub record Known (s : List ℕ) (k : ℕ) (h : Header) : Type 0 where

@@ -21,8 +21,6 @@ use Rattle.rules.proofs.Cut as Cut
 use Rattle.rules.proofs.Passed.{Passed, passes}
 use Rattle.rules.proofs.Growing.{granted-alike, released-snoc}
 use Rattle.rules.proofs.Loops.{Doing, doing-next}
-use Rattle.refusal.specs.declared.Refusal.{Refusal}
-use Rattle.refusal.specs.Numbers.{numberOf}
 use Rattle.message.specs.declared.Header.{Header}
 use Rattle.message.specs.declared.Message.{Message}
 use Rattle.message.specs.declared.MessageRead.the-variants as M
@@ -75,14 +73,11 @@ module _ (recordingBytes : List ℕ) (k : ℕ) where
       }
 
   -- a message that is refused
-  pub no-message-there : length recordingBytes ≤ 65536 → {n q : ℕ} → bad n q ≡ messageAt recordingBytes k → message k (drop k recordingBytes) ≡ bad n q
+  pub no-message : length recordingBytes ≤ 65536 → {n q : ℕ} → bad n q ≡ messageAt recordingBytes k → message k (drop k recordingBytes) ≡ bad n q
   unfolding messageAt messageHere message
-  no-message-there l e =
+  no-message l e =
       let q = sym (pass _ _ _ _ (le-ltb 65536 (length recordingBytes) l) refl) ∙ sym e in
       stop _ _ (refused-only _ _ q)
-
-  pub no-message : length recordingBytes ≤ 65536 → (f : Refusal) → toldMessage (M.Refused f) ≡ messageAt recordingBytes k → message k (drop k recordingBytes) ≡ bad (numberOf (f .why)) (f .place)
-  no-message l f e = no-message-there l e
 
 -- what a grant depends on
 module _ (m m′ : messages.Message) (f : m .flags ≡ m′ .flags) (i : m .id ≡ m′ .id) (s : m .seconds ≡ m′ .seconds) (n : m .nanos ≡ m′ .nanos) where

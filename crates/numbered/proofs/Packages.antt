@@ -30,7 +30,7 @@ use Rattle.message.specs.declared.PackageRead.{PackageRead}
 use Rattle.message.specs.declared.PackageRead.the-variants as P
 use Rattle.message.proofs.PackageRead.{the-type}
 use Rattle.message.specs.Answers.{toldHeader, toldPackage, frontAt, payloadFrom, nextFrom}
-use Rattle.message.proofs.Fronts.{fronted, front-refused, front-package, front-count, front-message}
+use Rattle.message.proofs.Fronts.{fronted, front-stopped, front-package, front-count, front-message}
 use Rattle.rules.specs.Walk.{packageAt}
 use Rattle.sheet.specs.Table.{rowsIn, nearOf, nearGrants}
 use Rattle.wire.specs.Bits.{bitAt, withBitIf}
@@ -218,7 +218,7 @@ module _ (rs : List rows.Row) (m : Message) (run marks₀ : List ℕ) (first : �
 
 module _ (rs : List rows.Row) (input : List ℕ) (k : ℕ) (marks marks′ : List ℕ) (first : ℕ) where
   pub took-refused : (f : Refusal) → toldHeader (header.Refused f) ≡ frontAt input k → Took rs input k marks marks′ first (taking.Refused f)
-  took-refused f e = record { told = front-refused input k f e; measured = tt }
+  took-refused f e = record { told = front-stopped input k e; measured = tt }
 
   module _ (h : Header) (e : toldHeader (header.Header h) ≡ frontAt input k) (w : Walked) (o : WalkedOver rs (messageBy h) (take (nextFrom k h - payloadFrom k h) (drop (payloadFrom k h) input)) marks marks′ first w) where
     run-long : length (take (nextFrom k h - payloadFrom k h) (drop (payloadFrom k h) input)) ≡ nextFrom k h - payloadFrom k h

@@ -8,7 +8,6 @@ use lib.Dec.{leb, ltb, eqb}
 use lib.ListN.{length, take, drop, length-append, length-map}
 use borrow.Author.Tests.{le-ltb, lt-ltb, ltb-true, ltb-false, leb-true, leb-false}
 use Rattle.rules.specs.Outcome.{good, bad}
-use Rattle.rules.specs.Message as messages
 use Rattle.rules.specs.Message.{head, message}
 use Rattle.rules.specs.Sheet as rows
 use Rattle.rules.specs.Items.{count}
@@ -201,7 +200,7 @@ module _ (rs : List rows.Row) (input : List ℕ) (quota : ℕ) (known : List ℕ
       refused-told : (f : Refusal) → toldMessage (M.Refused f) ≡ messageAt input k → toldMeasure (answer.Refused f) ≡ measured rs input quota known room
       unfolding measured takenAt
       refused-told f e =
-          let b : takenFrom input quota ≡ bad (numberOf (f .why)) (f .place) = taking-bad input quota (inv .done) k (tally .doing) l left (stop _ _ (no-message input k short f e)) in
+          let b : takenFrom input quota ≡ bad (numberOf (f .why)) (f .place) = taking-bad input quota (inv .done) k (tally .doing) l left (stop _ _ (no-message input k short e)) in
           sym (pass _ _ _ _ (le-ltb 65536 (length input) short) (stop _ _ b))
 
       pub measure-refused : (marks′ : List ℕ) (f : Refusal) (r : Counted) → r .answer ≡ answer.Refused f → toldMessage (M.Refused f) ≡ messageAt input k → Counts rs input quota known room fresh marks′ r

@@ -33,7 +33,7 @@ use Rattle.numbered.proofs.Numbers.{after-append}
 use Rattle.numbered.proofs.States.{beside-ids, beside-next, beside-length, sets-same}
 use Rattle.numbered.proofs.Ids.{after-length}
 use Rattle.numbered.proofs.Held.{Holds, ids-held, ids-long, next-long, counted-new, counted-ids, Settled, settled}
-use Rattle.numbered.proofs.Entries.{entryBytes, Met, no-message-there, it, order, inside, behind, run-length, cut-is, ps, flags-grown, grown, bytes-grown, after-grown, one-more, entry-length, payload-least}
+use Rattle.numbered.proofs.Entries.{entryBytes, Met, no-message, it, order, inside, behind, run-length, cut-is, ps, flags-grown, grown, bytes-grown, after-grown, one-more, entry-length, payload-least}
 
 -- a message with this front: how many packages it has is not looked at
 abbrev whole : ℕ → Header → Message
@@ -154,7 +154,7 @@ module _ (rs : List rows.Row) (recordingBytes ids₀ next₀ : List ℕ) (held�
           where
             go : (o : Outcome ℕ) → frontRun recordingBytes k ≡ o → (n : ℕ) × (good n ≡ frontRun recordingBytes k)
             go (good n) e = (n, sym e)
-            go (bad n p) e = absurd (no-refusal (no-message-there recordingBytes k short (front-stopped recordingBytes k (front-bad recordingBytes k (sym e)))))
+            go (bad n p) e = absurd (no-refusal (no-message recordingBytes k short (front-stopped recordingBytes k (front-bad recordingBytes k (sym e)))))
 
         pub write-there : (h : Header) → h ≡ headerIn recordingBytes k 0 → Fronted recordingBytes k h
         write-there h e = subst (Fronted recordingBytes k) (sym e) (fronted-alone recordingBytes k (passes .0) (passes .1))

@@ -12,7 +12,7 @@ use Rattle.rules.specs.Writer.{write}
 use Rattle.rules.specs.Clean.{cleaner}
 use Rattle.rules.proofs.Claims.{premises-met}
 use Rattle.message.specs.Answers.{toldHeader}
-use Rattle.message.proofs.Fronts.{front-refused}
+use Rattle.message.proofs.Fronts.{front-stopped}
 use Rattle.compose.specs.declared.Written.{Written}
 use Rattle.compose.specs.Told.{told}
 use Rattle.compose.proofs.Claims.{Stands, promised, cleaned-again}
@@ -35,7 +35,7 @@ clean-read-requires c κs = ap toldHeader (sym (c .before .before .h .given .1))
 returns : tie.Need-returns
 returns c =
     let a = c .before .before .before .before .before .before .args in
-    clean-refused (a .s .now) (a .out .now) (front-refused (a .s .now) 0 (c .before .x .given .0 .0) (ap toldHeader (sym (c .before .x .given .1)) ∙ c .before .before .before .front-at .ensures))
+    clean-refused (a .s .now) (a .out .now) (front-stopped (a .s .now) 0 (ap toldHeader (sym (c .before .x .given .1)) ∙ c .before .before .before .front-at .ensures))
 
 same-length : tie.Need-same-length
 same-length c = search needs

@@ -2,7 +2,7 @@
 use mathlib.Core.Path.{refl, sym, ap, _∙_}
 use native.Mathlib.Omega.{arith}
 use borrow.Author.Needs.{needs}
-use Rattle.message.proofs.Fronts.{front-bad, Entered, entered, front-refused}
+use Rattle.message.proofs.Fronts.{front-bad, Entered, entered, front-stopped}
 use Rattle.message.proofs.Messages.{span-bad}
 use Rattle.message.specs.Answers.{toldCount, spanOf}
 use Rattle.message.proofs.span_at.Statement.{statement}
@@ -37,7 +37,7 @@ span-from-ten-requires : tie.Need-span-from-ten-requires
 span-from-ten-requires c κs = its (c .before) .opened
 
 returns : tie.Need-returns
-returns c = span-bad (front-refused _ _ (c .before .r .given .0 .0) (front-bad _ _ (ap toldCount (sym (c .before .r .given .1)) ∙ c .before .before .before .front-run .ensures)))
+returns c = span-bad (front-stopped _ _ (front-bad _ _ (ap toldCount (sym (c .before .r .given .1)) ∙ c .before .before .before .front-run .ensures)))
 
 returns-2 : tie.Need-returns-2
 returns-2 c = c .span-from-ten .ensures ∙ ap spanOf (its (c .before .before) .told refl)

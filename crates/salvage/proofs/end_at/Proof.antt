@@ -10,7 +10,7 @@ use Rattle.rules.specs.Packages.{cut}
 use Rattle.message.specs.declared.Header.{Header}
 use Rattle.message.specs.declared.HeaderRead.the-variants as header
 use Rattle.message.specs.Answers.{toldCount, toldHeader, frontAt, payloadFrom, nextFrom}
-use Rattle.message.proofs.Fronts.{front-bad, front-good, front-refused, Fronted, fronted, front-uncut, front-count, front-message}
+use Rattle.message.proofs.Fronts.{front-bad, front-good, front-stopped, Fronted, fronted, front-uncut, front-count, front-message}
 use Rattle.salvage.specs.Told.{endOf}
 use Rattle.salvage.proofs.Ending.{uncounted, counted}
 use Rattle.salvage.proofs.end_at.Statement.{statement}
@@ -40,7 +40,7 @@ enum-told : tie.Need-enum-told
 enum-told c = search needs
 
 returns : tie.Need-returns
-returns c = ap endOf (front-refused _ _ (c .enum-told .given .0 .0) (front-bad _ _ (ap toldCount (sym (c .enum-told .given .1)) ∙ c .before .before .front-run .ensures)))
+returns c = ap endOf (front-stopped _ _ (front-bad _ _ (ap toldCount (sym (c .enum-told .given .1)) ∙ c .before .before .front-run .ensures)))
 
 header-in-requires : tie.Need-header-in-requires
 header-in-requires c κs = search needs
