@@ -11,6 +11,7 @@ use Rattle.ids.specs.Told.{rangesIn}
 use Rattle.ids.specs.Parts.{withRange, noIds}
 use Rattle.ids.specs.declared.IdRange.{IdRange}
 
+-- they are as many as are asked for
 pub many : (n : ℕ) (ends : List ℕ) → length (rangesIn n ends) ≡ n
 unfolding rangesIn
 many zero ends = refl

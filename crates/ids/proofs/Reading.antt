@@ -7,8 +7,8 @@ use native.Mathlib.Numerals.{add-one}
 use native.Mathlib.Omega.{arith}
 use borrow.Author.Tests.{le-ltb, lt-ltb, lt-leb}
 use lib.Dec.{leb}
-use lib.ListN.{length, getD, take, drop, set, replicate, length-append, length-set, take-append-drop}
-use lib.Seq.{set-at, set-getD, take-all, length-take-le, drop-nil, drop-drop, drop-set-lt}
+use lib.ListN.{length, take, drop, set, replicate, length-append, length-map, length-set, take-append-drop}
+use lib.Seq.{length-take-le, drop-drop, drop-set-lt}
 use Rattle.rules.specs.Outcome.{Outcome, good, bad, _>>=_, _∷>_, LARGE}
 use Rattle.rules.specs.Bytes.{at}
 use Rattle.refusal.specs.Numbers.{TEXT}
@@ -16,12 +16,12 @@ use Rattle.rules.proofs.Outcomes.{pass, halt, step, stop, bad-inj, good≢bad}
 use Rattle.ids.specs.Line.{Item, comma}
 use Rattle.ids.specs.Reader.{Range, mostItems, noRange, itemFits, itemAt, listAt, rangesOf, idRanges, handedOut, readIds, shownRanges}
 use Rattle.ids.specs.Claims.{rangeOf}
-use Rattle.ids.specs.Told.{rangeIn, answer, told}
-use Rattle.ids.specs.Parts.{restAt, formOf, readOn, faultAt, pairFits, heldRanges, withRange, Held, lineTold, noIds}
-use Rattle.rules.proofs.Growing.{map-append}
+use Rattle.ids.specs.Told.{rangeIn, answer, told, rangesIn}
+use Rattle.ids.specs.Parts.{restAt, formOf, readOn, faultAt, pairFits, heldRanges, withRange, Held, lineTold}
 use Rattle.ids.specs.declared.IdRange.{IdRange}
 use Rattle.ids.specs.declared.LineRead.{LineRead}
 use Rattle.ids.specs.declared.IdsAnswer.the-variants as Answer
+use Rattle.ids.proofs.Ends.{many}
 use Rattle.ids.proofs.Steps.{rest-none, rest-odd, rest-list, list-broken, list-then}
 
 module _ (done : List Range) where
@@ -72,38 +72,34 @@ fault-bad p q (bad n r) e = let (a, b) = bad-inj e in rw (a, b)
 
 -- ---- the ranges that are held
 
--- numbers of ranges: how many ranges they are, those behind the first n, and those that are all zero
-pairs-length : (k : ℕ) (l : List ℕ) → length l ≡ 2 * k → length (heldRanges l) ≡ k
-unfolding heldRanges
-pairs-length zero [] e = refl
-pairs-length zero (a ∷ l) e = absurd (omega arith)
-pairs-length (suc k) [] e = absurd (omega arith)
-pairs-length (suc k) (a ∷ []) e = absurd (omega arith)
-pairs-length (suc k) (a ∷ b ∷ l) e = ap suc (pairs-length k l (omega arith))
+-- ranges by their ends: those behind the first n, and those that are all zero
+ranges-behind : (n m : ℕ) (l : List ℕ) → drop n (map rangeIn (rangesIn m l)) ≡ map rangeIn (rangesIn (m - n) (drop (2 * n) l))
+unfolding rangesIn
+ranges-behind zero m l = let z : m - 0 ≡ m = omega arith in rw z
+ranges-behind (suc n) zero l = let z : 0 - suc n ≡ 0 = omega arith in rw z
+ranges-behind (suc n) (suc m) l =
+    let z : 2 * suc n ≡ 2 + 2 * n = omega arith in
+    let w : suc m - suc n ≡ m - n = omega arith in
+    rw (z, w, ← drop-drop (2 * n) 2 l) (ranges-behind n m (drop 2 l))
 
-pairs-behind : (n : ℕ) (l : List ℕ) → drop n (heldRanges l) ≡ heldRanges (drop (2 * n) l)
-unfolding heldRanges
-pairs-behind zero l = refl
-pairs-behind (suc n) [] = ap heldRanges (sym (drop-nil (2 * suc n)))
-pairs-behind (suc n) (a ∷ []) = let z : 2 * suc n ≡ suc (suc (2 * n)) = omega arith in rw z (ap heldRanges (sym (drop-nil (suc (2 * n)))))
-pairs-behind (suc n) (a ∷ b ∷ l) = let z : 2 * suc n ≡ suc (suc (2 * n)) = omega arith in rw z (pairs-behind n l)
-
-pairs-zero : (k : ℕ) → heldRanges (replicate (2 * k) 0) ≡ replicate k noRange
-unfolding heldRanges
-pairs-zero zero = refl
-pairs-zero (suc k) = let z : 2 * suc k ≡ suc (suc (2 * k)) = omega arith in rw z (ap (λ (l : List Range). noRange ∷ l) (pairs-zero k))
+ranges-zero : (m : ℕ) → map rangeIn (rangesIn m (replicate (2 * m) 0)) ≡ replicate m noRange
+unfolding rangesIn
+ranges-zero zero = refl
+ranges-zero (suc m) = let z : 2 * suc m ≡ suc (suc (2 * m)) = omega arith in rw z (ap (λ (l : List Range). noRange ∷ l) (ranges-zero m))
 
 -- one more
-pairs-more : (n : ℕ) (l : List ℕ) (a b : ℕ) → 2 * n + 1 < length l → take (n + 1) (heldRanges (withRange l n a b)) ≡ take n (heldRanges l) ++ (record { first = a; last = b } ∷ [])
-unfolding heldRanges
-pairs-more n [] a b h = absurd (omega arith)
-pairs-more n (x ∷ []) a b h = absurd (omega arith)
-pairs-more zero (x ∷ y ∷ l) a b h = refl
-pairs-more (suc n) (x ∷ y ∷ l) a b h =
+ranges-more : (n m : ℕ) (l : List ℕ) (a b : ℕ) → n < m → 2 * n + 1 < length l
+    → take (n + 1) (map rangeIn (rangesIn m (withRange l n a b))) ≡ take n (map rangeIn (rangesIn m l)) ++ (record { first = a; last = b } ∷ [])
+unfolding rangesIn
+ranges-more n zero l a b h k = absurd (omega arith)
+ranges-more n (suc m) [] a b h k = absurd (omega arith)
+ranges-more n (suc m) (x ∷ []) a b h k = absurd (omega arith)
+ranges-more zero (suc m) (x ∷ y ∷ l) a b h k = refl
+ranges-more (suc n) (suc m) (x ∷ y ∷ l) a b h k =
     let z : 2 * suc n ≡ suc (suc (2 * n)) = omega arith in
     let w : 2 * suc n + 1 ≡ suc (suc (2 * n + 1)) = omega arith in
-    let k : suc n + 1 ≡ suc (n + 1) = omega arith in
-    rw (w, z, k) (ap (λ (m : List Range). record { first = x; last = y } ∷ m) (pairs-more n l a b (omega arith)))
+    let v : suc n + 1 ≡ suc (n + 1) = omega arith in
+    rw (w, z, v) (ap (λ (q : List Range). record { first = x; last = y } ∷ q) (ranges-more n m l a b (omega arith) (omega arith)))
 
 pub held-start : Held (replicate 64 0) 0
 held-start = record { few = omega arith; long = refl; behind = refl }
@@ -113,12 +109,12 @@ module _ (numbers : List ℕ) (n : ℕ) (held : Held numbers n) where
   seen = take n (heldRanges numbers)
 
   seen-length : length seen ≡ n
-  seen-length = length-take-le n (heldRanges numbers) (omega (arith, pairs-length 32 numbers (held .long), held .few))
+  seen-length = length-take-le n (heldRanges numbers) (omega (arith, length-map (rangesIn 32 numbers) rangeIn, many 32 numbers, held .few))
 
   pub held-told : good (heldRanges numbers, n) ≡ good (handedOut seen)
   held-told =
       let m : heldRanges numbers ≡ seen ++ replicate (mostItems - length seen) noRange =
-      sym (take-append-drop n (heldRanges numbers)) ∙ rw (seen-length, pairs-behind, held .behind, pairs-zero) in
+      sym (take-append-drop n (heldRanges numbers)) ∙ rw (seen-length, ranges-behind n 32 numbers, held .behind, ranges-zero) in
       rw (← m, seen-length)
 
   module _ (h : n < 32) (a b : ℕ) where
@@ -133,7 +129,7 @@ module _ (numbers : List ℕ) (n : ℕ) (held : Held numbers n) where
         }
 
     seen-next : take (n + 1) (heldRanges (withRange numbers n a b)) ≡ seen ++ (record { first = a; last = b } ∷ [])
-    seen-next = pairs-more n numbers a b (omega (arith, held .long))
+    seen-next = ranges-more n 32 numbers a b h (omega (arith, held .long))
 
   -- the item at place p, and what is answered
   module _ (s : List ℕ) (p : ℕ) where
@@ -177,43 +173,12 @@ module _ (numbers : List ℕ) (n : ℕ) (held : Held numbers n) where
     pub a-comma : p < length s → at s p ≡ comma → readOn seen (listAt 0 (p + 1) (drop (p + 1) s)) ≡ readOn seen (restAt p (drop p s))
     a-comma l h = ap (readOn seen) (sym (rest-list s p l h))
 
--- ---- the ranges as they are handed out
-
--- the first i are there, and those behind them are zero
-pub record Filled (numbers : List ℕ) (ranges : List IdRange) (i : ℕ) : Type 0 where
-  pub done : List IdRange
-  pub are : map rangeIn done ≡ take i (heldRanges numbers)
-  pub many : length done ≡ i
-  pub all : ranges ≡ done ++ replicate (32 - i) noIds
-
-pub filled-start : (numbers : List ℕ) → Filled numbers (replicate 32 noIds) 0
-filled-start numbers = record { done = []; are = refl; many = refl; all = refl }
-
-pair-at : (i : ℕ) (l : List ℕ) → 2 * i + 1 < length l → take (i + 1) (heldRanges l) ≡ take i (heldRanges l) ++ (record { first = getD l (2 * i) 0; last = getD l (2 * i + 1) 0 } ∷ [])
-pair-at i l h = rw (set-getD, set-getD) at (pairs-more i l (getD l (2 * i) 0) (getD l (2 * i + 1) 0) h)
-
-module _ (numbers : List ℕ) (ranges : List IdRange) (i : ℕ) (long : length numbers ≡ 64) where
-  pub filled-next : i < 32 → Filled numbers ranges i → Filled numbers (set ranges i (record { first = getD numbers (2 * i) 0; last = getD numbers (2 * i + 1) 0 })) (i + 1)
-  filled-next h w =
-      let r : IdRange = record { first = getD numbers (2 * i) 0; last = getD numbers (2 * i + 1) 0 } in
-      let z : 32 - i ≡ suc (32 - (i + 1)) = omega arith in
-      record {
-        done = w .done ++ (r ∷ []);
-        are = map-append rangeIn (w .done) (r ∷ []) ∙ rw (w .are) (sym (pair-at i numbers (omega (arith, long))));
-        many = rw (length-append, w .many);
-        all = rw (w .all, z) (set-at (w .done) noIds (replicate (32 - (i + 1)) noIds) r i (w .many) ∙ sym (append-assoc (w .done) (r ∷ []) _));
-      }
-
-  pub filled-all : 32 ≤ i → Filled numbers ranges i → map rangeIn ranges ≡ heldRanges numbers
-  filled-all h w =
-      let z : 32 - i ≡ 0 = omega arith in
-      let e : ranges ≡ w .done = w .all ∙ rw z (append-nil (w .done)) in
-      ap (map rangeIn) e ∙ w .are ∙ take-all i (heldRanges numbers) (omega (arith, pairs-length 32 numbers long))
+-- ---- what is handed out
 
 pub heard : {r r′ : LineRead} (numbers : List ℕ) {o : Outcome (List Range × ℕ)} → r ≡ r′ → lineTold r′ numbers ≡ o → lineTold r numbers ≡ o
 heard numbers e f = ap (λ (x : LineRead). lineTold x numbers) e ∙ f
 
-pub handed : (numbers : List ℕ) (ranges : List IdRange) (k : ℕ) → map rangeIn ranges ≡ heldRanges numbers → told (record { answer = Answer.Good; ranges = ranges; count = k }) ≡ answer (good (heldRanges numbers, k))
+pub handed : (numbers : List ℕ) (ranges : List IdRange) (k : ℕ) → ranges ≡ rangesIn 32 numbers → told (record { answer = Answer.Good; ranges = ranges; count = k }) ≡ answer (good (heldRanges numbers, k))
 unfolding shownRanges
 handed numbers ranges k e = rw e
 

@@ -2,13 +2,14 @@
 use Prim.Native.Nat.{ℕ, zero, suc, _+_, _-_, _*_, _≤_}
 use mathlib.Core.Path.{_≡_}
 use mathlib.Core.Bool.{Bool, not}
-use mathlib.Core.List.{List, [], _∷_, _++_}
+use mathlib.Core.List.{List, [], _∷_, _++_, map}
 use lib.Dec.{eqb}
 use lib.ListN.{length, drop, set, replicate}
 use Rattle.rules.specs.Outcome.{Outcome, good, bad, refuse, _>>_, _>>=_}
 use Rattle.refusal.specs.Numbers.{TEXT, refused}
 use Rattle.ids.specs.Line.{comma, Item}
 use Rattle.ids.specs.Reader.{Range, mostItems, itemFits, listAt, rangesOf, handedOut}
+use Rattle.ids.specs.Told.{rangeIn, rangesIn}
 use Rattle.ids.specs.declared.IdRange.{IdRange}
 use Rattle.ids.specs.declared.ItemRead.{ItemRead}
 use Rattle.ids.specs.declared.ItemRead.the-variants as Read
@@ -57,11 +58,9 @@ faultAt p o = do
 abbrev pub pairFits : ℕ → ℕ → Bool
 pairFits a b = itemFits (record { place = 0; first = a; last = b })
 
--- the ranges that numbers stand for, first and last of each in turn; and such numbers with a range at index n
-unfoldable pub heldRanges : List ℕ → List Range
-heldRanges [] = []
-heldRanges (a ∷ []) = []
-heldRanges (a ∷ b ∷ l) = record { first = a; last = b } ∷ heldRanges l
+-- the 32 ranges that numbers stand for, first and last of each in turn; and such numbers with a range at index n
+abbrev pub heldRanges : List ℕ → List Range
+heldRanges numbers = map rangeIn (rangesIn mostItems numbers)
 
 abbrev pub withRange : List ℕ → ℕ → ℕ → ℕ → List ℕ
 withRange l n a b = set (set l (2 * n) a) (2 * n + 1) b

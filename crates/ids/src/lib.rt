@@ -231,18 +231,27 @@ fn no_ids() -> IdRange
     IdRange { first: 0, last: 0 }
 }
 
-// The ranges of which first and last are lent.
-fn ranges_of(numbers: &[u32]) -> [IdRange; 32]
-    requires { ⌜ length (now numbers) ≡ 64 ⌝ }
-    ensures { λ r. ⌜ map rangeIn r ≡ heldRanges (now (numbers .entry)) ⌝ }
+// The range with index i, of ranges of which first and last are lent.
+fn range_at(ends: &[u32], i: usize) -> IdRange
+    requires { ⌜ (i < 32) × (length (now ends) ≡ 64) ⌝ }
+    ensures { λ r. ⌜ r ≡ getD (rangesIn 32 (now (ends .entry))) i noIds ⌝ }
+{
+    let at = 2 * i;
+    IdRange {
+        first: ends[at],
+        last: ends[at + 1],
+    }
+}
+
+// All 32 of them.
+fn ranges_of(ends: &[u32]) -> [IdRange; 32]
+    requires { ⌜ length (now ends) ≡ 64 ⌝ }
+    ensures { λ r. ⌜ r ≡ rangesIn 32 (now (ends .entry)) ⌝ }
 {
     let mut ranges = [no_ids(); 32];
     let mut i: usize = 0;
     while i < 32 {
-        ranges[i] = IdRange {
-            first: numbers[2 * i],
-            last: numbers[2 * i + 1],
-        };
+        ranges[i] = range_at(ends, i);
         i += 1;
     }
     ranges
@@ -334,18 +343,6 @@ fn put_item(out: &mut [u8], at: usize, r: IdRange) -> usize
 enum Order {
     Kept,
     Bad(usize),
-}
-
-// The range with index i, of ranges of which first and last are lent.
-fn range_at(ends: &[u32], i: usize) -> IdRange
-    requires { ⌜ (i < 32) × (length (now ends) ≡ 64) ⌝ }
-    ensures { λ r. ⌜ r ≡ getD (rangesIn 32 (now (ends .entry))) i noIds ⌝ }
-{
-    let at = 2 * i;
-    IdRange {
-        first: ends[at],
-        last: ends[at + 1],
-    }
 }
 
 // No range is inverted, and none is the 33rd.

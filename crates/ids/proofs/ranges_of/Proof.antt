@@ -1,43 +1,31 @@
--- `ids::ranges_of` meets its contract. The invariant of its loop: the first i ranges are there, and those behind them are zero.
-use Prim.Native.Nat.{_-_}
+-- `ids::ranges_of` meets its contract: in the loop the first i ranges are there.
+use Prim.Native.Nat.{_-_, _≤_, _<_}
+use mathlib.Core.Path.{_≡_, refl, sym, _∙_}
+use native.Mathlib.Numerals.{add-one}
 use native.Mathlib.Omega.{arith}
 use borrow.Author.Needs.{needs}
-use Rattle.ids.proofs.Reading.{Filled, filled-start, filled-next, filled-all}
+use lib.ListN.{length, take, length-set}
+use lib.Seq.{take-all, take-suc, take-suc-set}
+use Rattle.ids.specs.Told.{rangesIn}
+use Rattle.ids.specs.Parts.{noIds}
+use Rattle.ids.proofs.Ends.{many}
 use Rattle.ids.proofs.ranges_of.Statement.{statement}
 use Rattle.ids.proofs.ranges_of.Tie as tie
 
 abbrev Inv-loop : tie.InvT-loop
-Inv-loop numbers ranges₀ i₀ ranges i = Filled numbers ranges i
+Inv-loop ends ranges₀ i₀ ranges i = (i ≤ 32) × (length ranges ≡ 32) × (take i ranges ≡ take i (rangesIn 32 ends))
 
 abbrev μ-loop : tie.MeasureT-loop
-μ-loop numbers ranges₀ i₀ ranges i = 32 - i
+μ-loop ends ranges₀ i₀ ranges i = 32 - i
 
 no-ids-requires : tie.Need-no-ids-requires Inv-loop μ-loop
 no-ids-requires c κs = search needs
 
 loop-holds : tie.Need-loop-holds Inv-loop μ-loop
-loop-holds c = rw (c .no-ids .ensures) (filled-start _)
+loop-holds c = (omega arith, search needs, refl)
 
-mul-t6 : tie.Need-mul-t6 Inv-loop μ-loop
-mul-t6 c = omega arith
-
-mul-t7 : tie.Need-mul-t7 Inv-loop μ-loop
-mul-t7 c = omega arith
-
-shared-slice-read-t9 : tie.Need-shared-slice-read-t9 Inv-loop μ-loop
-shared-slice-read-t9 c = omega (arith, c .before .before .before .before .before .pre)
-
-mul-t10 : tie.Need-mul-t10 Inv-loop μ-loop
-mul-t10 c = omega arith
-
-add-t11 : tie.Need-add-t11 Inv-loop μ-loop
-add-t11 c = omega arith
-
-mul-t12 : tie.Need-mul-t12 Inv-loop μ-loop
-mul-t12 c = omega arith
-
-shared-slice-read-t14 : tie.Need-shared-slice-read-t14 Inv-loop μ-loop
-shared-slice-read-t14 c = omega (arith, c .before .before .before .before .before .before .pre)
+range-at-requires : tie.Need-range-at-requires Inv-loop μ-loop
+range-at-requires c κs = (c .loop-test .taken, c .before .before .before .before .pre)
 
 mul-ranges : tie.Need-mul-ranges Inv-loop μ-loop
 mul-ranges c = omega arith
@@ -52,10 +40,18 @@ loop-less : tie.Need-loop-less Inv-loop μ-loop
 loop-less c = omega arith
 
 loop-again : tie.Need-loop-again Inv-loop μ-loop
-loop-again c = filled-next _ _ _ (c .before .before .before .before .before .before .pre) (search needs) (c .before .before .before .loop .inv)
+loop-again c =
+    let v = c .before .before .loop in
+    let all = rangesIn 32 (c .before .before .before .before .before .args .ends .now) in
+    let h : v .i < 32 = c .before .loop-test .taken in
+    let n : v .i < length all = omega (arith, h, many 32 (c .before .before .before .before .before .args .ends .now)) in
+    (omega arith, rw length-set (v .inv .1), rw (add-one (v .i)) (take-suc-set (v .ranges) (v .i) (c .range-at .result) (omega (arith, h, v .inv .1)) ∙ rw (v .inv .2, c .range-at .ensures) (sym (take-suc all (v .i) noIds n))))
 
 returns : tie.Need-returns Inv-loop μ-loop
-returns c = filled-all _ _ _ (c .before .before .before .before .pre) (search needs) (c .before .loop .inv)
+returns c =
+    let v = c .before .loop in
+    let all = rangesIn 32 (c .before .before .before .before .args .ends .now) in
+    sym (take-all (v .i) (v .ranges) (omega (arith, v .inv .1))) ∙ v .inv .2 ∙ take-all (v .i) all (omega (arith, many 32 (c .before .before .before .before .args .ends .now)))
 
 pub ranges-of-spec : {M : Type 1} → statement M
 ranges-of-spec =
@@ -65,13 +61,7 @@ ranges-of-spec =
     μ-loop
     no-ids-requires
     loop-holds
-    mul-t6
-    mul-t7
-    shared-slice-read-t9
-    mul-t10
-    add-t11
-    mul-t12
-    shared-slice-read-t14
+    range-at-requires
     mul-ranges
     array-set-from-ranges
     add-i
