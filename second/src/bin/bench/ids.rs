@@ -53,17 +53,17 @@ fn name_of(what: &str, count: usize) -> String {
 fn time_read_ids(count: usize, repetitions: usize) -> Line {
     let line = line_of(count);
     let mut target = vec![0; line.len()];
-    let read = |line: &[u8]| {
-        let mut values = [0; 66];
-        // The pointer and the length are those of the line.
-        let number =
-            unsafe { raw::hibernaxo_read_ids(line.as_ptr(), line.len(), values.as_mut_ptr()) };
-        Answer { number, values }
+    // The values are lent, as buffers are, and not cleared between.
+    let read = |line: &[u8], values: &mut [u64; 66]| {
+        // The pointers are those of the line, whose length this is, and of 66 values.
+        unsafe { raw::hibernaxo_read_ids(line.as_ptr(), line.len(), values.as_mut_ptr()) }
     };
-    assert_eq!(read(&line), answers::read_ids(&line));
-    assert_eq!(read(&line).values[1], count as u64);
+    let mut values = [0; 66];
+    let number = read(&line, &mut values);
+    assert_eq!(Answer { number, values }, answers::read_ids(&line));
+    assert_eq!(values[1], count as u64);
     let mut export = || {
-        black_box(read(black_box(&line)));
+        black_box(read(black_box(&line), black_box(&mut values)));
     };
     let mut second = || good(ids::read_ids(black_box(&line)), &mut []);
     let mut quick = || good(quick::ids::read_ids(black_box(&line)), &mut []);
