@@ -2,7 +2,9 @@
 pub mod Tests
 pub mod Checks
 pub mod Opts
+pub mod Left
 pub mod Pieces
+pub mod Moved
 pub mod Headers
 pub mod Messages
 pub mod Same

@@ -103,14 +103,16 @@ start p s = record { done = []; many = refl; few = omega arith; inside = omega a
 
 pub record Onward (p : ℕ) (s : List ℕ) (i n k : ℕ) : Type 0 where
   pub least : 1 ≤ k
+  pub most : i + k ≤ length s
   pub counting : Counting p s (i + k) (n + 1)
 
 module _ (p : ℕ) (s : List ℕ) (i n : ℕ) (c : Counting p s i n) where
-  pub next : (k : ℕ) → i < length s → Takes k ≡ pieceHere (take (length s - i) (drop i s)) → Onward p s i n k
+  pub next : (k : ℕ) → i < length s → Takes k ≡ pieceHere (drop i s) → Onward p s i n k
   next k l e =
-      let t : Taking (drop i s) k = takes (drop i s) k (sym (rw rest at e)) in
+      let t : Taking (drop i s) k = takes (drop i s) k (sym e) in
       record {
         least = omega (arith, t .more);
+        most = omega (arith, t .most, length-drop i s);
         counting = record {
           done = c .done ++ (take k (drop i s) ∷ []);
           many = omega (arith, length-append (c .done) (take k (drop i s) ∷ []), c .many);
@@ -120,9 +122,9 @@ module _ (p : ℕ) (s : List ℕ) (i n : ℕ) (c : Counting p s i n) where
         };
       }
 
-  pub stopped : i < length s → Bad ≡ pieceHere (take (length s - i) (drop i s)) → bad PACKAGE (p + i) ≡ cutCount p s
+  pub stopped : i < length s → Bad ≡ pieceHere (drop i s) → bad PACKAGE (p + i) ≡ cutCount p s
   unfolding cutCount
-  stopped l e = sym (stop _ _ (passing-bad piece p s (c .done) i (p + i) (c .doing) l (piece-bad (p + i) (drop i s) (broken (drop i s) (sym (rw rest at e))))))
+  stopped l e = sym (stop _ _ (passing-bad piece p s (c .done) i (p + i) (c .doing) l (piece-bad (p + i) (drop i s) (broken (drop i s) (sym e)))))
 
   pub ended : length s ≤ i → good n ≡ cutCount p s
   unfolding cutCount

@@ -571,21 +571,22 @@ pub fn package_time(seconds: u32, nanos: u32, delta: u32) -> u64
     (seconds as u64) * 1000000000 + (nanos as u64) + (delta as u64)
 }
 
-// How many packages the payload q holds, which stands at place p: check 10.
+// How many packages the payload q holds, which stands at place p: check 10. It goes by what is left of q: each package waits for the length of the one
+// before it, and is read a step sooner where it begins than at a place behind where q begins.
 fn packages_of(q: &[u8], p: usize) -> Count
     requires { ⌜ p + length (now q) < 4294967296 ⌝ }
     ensures { λ r. ⌜ spec.toldCount r ≡ spec.cutCount p (now (q .entry)) ⌝ }
 {
-    let mut i = 0;
+    let mut rest = q;
     let mut n = 0;
-    while i < q.len() {
-        let Piece::Takes(k) = piece_here(&q[i..]) else {
+    while 0 < rest.len() {
+        let Piece::Takes(k) = piece_here(rest) else {
             return Count::Refused(Refusal {
                 why: Why::Package,
-                place: p + i,
+                place: p + (q.len() - rest.len()),
             });
         };
-        i += k;
+        rest = &rest[k..];
         n += 1;
     }
     Count::Number(n)

@@ -4,11 +4,10 @@ use mathlib.Core.Path.{_≡_, refl, sym, ap, _∙_}
 use mathlib.Core.Bool.{Bool, true, false}
 use mathlib.Core.List.{List, [], _∷_}
 use mathlib.Core.Option.{Option, none, some}
-use native.Mathlib.Nat.{add-zero}
 use native.Mathlib.Omega.{arith}
 use lib.Dec.{leb}
 use lib.ListN.{length, take, drop, length-drop}
-use lib.Seq.{take-take, drop-drop, length-take-le}
+use lib.Seq.{take-take, length-take-le}
 use borrow.Author.Tests.{lt-leb, not-false, le-ltb}
 use Rattle.rules.specs.Outcome.{Outcome, good, bad, _>>=_}
 use Rattle.rules.specs.Bytes.{Bytes, half, word, pad, part}
@@ -24,6 +23,7 @@ use Rattle.refusal.specs.Numbers.{numberOf}
 use Rattle.message.specs.declared.Package.{Package}
 use Rattle.message.specs.declared.PackageRead.the-variants as P
 use Rattle.message.specs.Answers.{toldPackage}
+use Rattle.message.proofs.Moved.{moved}
 use Rattle.rules.specs.Walk.{PackageSpot, packageSpot, packageAt}
 use Rattle.numbered.specs.Parts.{pieceAs, Placed}
 
@@ -134,38 +134,49 @@ module _ (run : List ℕ) (k : ℕ) (p : Package) (f : Found run k p) where
   pub still : p .next ≤ length run
   still = omega (arith, next-is, within)
 
-  pub placed : length run ≤ 65536 → Placed run k p
-  placed l = record {
-    front = omega (arith, to-is, is-piece .least);
-    padding = omega (arith, to-is, next-is, piece-size);
-    little = omega (arith, to-is, next-is, piece-size);
-    inside = still;
-    short = l;
-  }
-
   content-size : 12 + length (part 12 (half (f .c) 4) (f .c)) ≡ half (f .c) 4
   content-size =
       omega (arith, length-take-le (half (f .c) 4 - 12) (drop 12 (f .c)) (omega (arith, length-drop 12 (f .c), is-piece .least, is-piece .whole)), is-piece .least)
 
-  -- a part of the piece, as it stands in the run
-  part-there : (a e : ℕ) → a ≤ e → e ≤ f .n → part (k + a) (k + e) run ≡ part a e (f .c)
-  part-there a e h l =
-      let n : k + e - (k + a) ≡ e - a = omega arith in
-      rw (n, ← drop-drop a k run)
-      (sym (ap (λ (s : List ℕ). take (e - a) (drop a s)) (is-taken .bytes) ∙ take-drop-take a (e - a) (pad (half t 4)) t (omega (arith, is-taken .size))))
-
-  -- its bytes, reserved byte and padding zero, are those that its numbers are written as
-  pub piece-is : Bytes run → pieceAs run k p ≡ pieceOf (packageOf (f .c))
-  unfolding pieceAs cleanPiece
-  piece-is y =
-      let c : Bytes (f .c) = rw (is-taken .bytes) (bytes-take (pad (half t 4)) t (bytes-drop k run y)) in
-      let z : p .next - p .to ≡ length (f .c) - half (f .c) 4 = omega (arith, next-is, to-is, piece-size, is-piece .whole) in
-      let a : part k (k + 6) run ≡ part 0 6 (f .c) = rw add-zero at (part-there 0 6 (omega arith) (omega (arith, least))) in
-      let b : part (k + 7) (p .to) run ≡ part 7 (half (f .c) 4) (f .c) = rw to-is at (part-there 7 (half (f .c) 4) (omega (arith, is-piece .least)) (omega (arith, piece-size))) in
-      rw (a, b, z) (sym (piece-clean (f .c) is-piece c))
+  -- a part of the piece, as it stands there
+  part-there : (a e : ℕ) → a ≤ e → e ≤ f .n → part a e t ≡ part a e (f .c)
+  part-there a e h l = sym (ap (λ (s : List ℕ). take (e - a) (drop a s)) (is-taken .bytes) ∙ take-drop-take a (e - a) (pad (half t 4)) t (omega (arith, is-taken .size)))
 
   pub piece-length : length (pieceOf (packageOf (f .c))) ≡ f .n
   unfolding pieceOf packageOf
   piece-length =
       let l : 12 + length (part 12 (half (f .c) 4) (f .c)) ≡ half (f .c) 4 = content-size in
       omega (arith, length-padded (part 12 (half (f .c) 4) (f .c)), piece-size)
+
+-- a package that was read at the start of what is left from place k on
+module _ (run : List ℕ) (k : ℕ) (p : Package) (f : Found run k (moved k p)) where
+  abbrev there : List ℕ
+  there = drop k run
+
+  pub placed : length run ≤ 65536 → Placed there p
+  placed l =
+      let piece = is-piece run k (moved k p) f in
+      let size = piece-size run k (moved k p) f in
+      let next = next-is run k (moved k p) f in
+      let to = to-is run k (moved k p) f in
+      record {
+        front = omega (arith, to, piece .least);
+        padding = omega (arith, to, next, size);
+        little = omega (arith, to, next, size);
+        inside = omega (arith, next, within run k (moved k p) f, length-drop k run);
+        short = omega (arith, length-drop k run);
+      }
+
+  -- its bytes, reserved byte and padding zero, are those that its numbers are written as
+  pub piece-is : Bytes run → pieceAs there p ≡ pieceOf (packageOf (f .c))
+  unfolding pieceAs cleanPiece
+  piece-is y =
+      let piece = is-piece run k (moved k p) f in
+      let taken = is-taken run k (moved k p) f in
+      let size = piece-size run k (moved k p) f in
+      let to : p .to ≡ half (f .c) 4 = omega (arith, to-is run k (moved k p) f) in
+      let c : Bytes (f .c) = rw (taken .bytes) (bytes-take (pad (half there 4)) there (bytes-drop k run y)) in
+      let z : p .next - p .to ≡ length (f .c) - half (f .c) 4 = omega (arith, next-is run k (moved k p) f, to, size, piece .whole) in
+      let a : take 6 there ≡ part 0 6 (f .c) = part-there run k (moved k p) f 0 6 (omega arith) (omega (arith, least run k (moved k p) f)) in
+      let b : part 7 (p .to) there ≡ part 7 (half (f .c) 4) (f .c) = rw to (part-there run k (moved k p) f 7 (half (f .c) 4) (omega (arith, piece .least)) (omega (arith, size))) in
+      rw (a, b, z) (sym (piece-clean (f .c) piece c))

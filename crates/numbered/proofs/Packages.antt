@@ -29,6 +29,7 @@ use Rattle.message.specs.declared.Package.{Package}
 use Rattle.message.specs.declared.PackageRead.{PackageRead}
 use Rattle.message.specs.declared.PackageRead.the-variants as P
 use Rattle.message.proofs.PackageRead.{the-type}
+use Rattle.message.proofs.Moved.{moved, read-moved}
 use Rattle.message.specs.Answers.{toldHeader, toldPackage, frontAt, payloadFrom, nextFrom}
 use Rattle.message.proofs.Fronts.{fronted, front-stopped, front-package, front-count, front-message}
 use Rattle.rules.specs.Walk.{packageAt}
@@ -68,6 +69,10 @@ simulated-bit flags =
     let b : flags % 16 / 8 ≡ flags / 8 % 2 = omega arith in
     let c : (flags / 64 % 2 * 8 + flags / 8 % 2) % 2 ≡ flags / 8 % 2 = omega arith in
     rw (a, b, c)
+
+-- a package that was read at the start of what is left, as it stands in the run
+pub found-behind : (run : List ℕ) (k : ℕ) → length run ≤ 65536 → (p : Package) → toldPackage (P.Package p) ≡ packageAt (drop k run) 0 → Found run k (moved k p)
+found-behind run k l p e = found run k (moved k p) (read-moved run k l (P.Package p) e)
 
 -- whether a package that was found is granted by the near rows of its message
 module _ (table : List ℕ) (h : Header) (run : List ℕ) (k : ℕ) (p : Package) (f : Found run k p) where
@@ -166,12 +171,12 @@ module _ (rs : List rows.Row) (m : Message) (run marks₀ : List ℕ) (first : �
     walk-ended l = walked (keep-all (kept rs m) run (inv .ps) k (inv .keeping)) (λ b. absurd (omega arith))
 
     module _ (short : length run ≤ 65536) (l : k < length run) where
-      pub walk-stopped : (x : PackageRead) → NoPackage x → toldPackage x ≡ packageAt run k → WalkedOver rs m run marks₀ marks first (record { size = s; all = all; end = k })
+      pub walk-stopped : (x : PackageRead) → NoPackage x → toldPackage x ≡ packageAt (drop k run) 0 → WalkedOver rs m run marks₀ marks first (record { size = s; all = all; end = k })
       walk-stopped (P.Package p) o e = absurd (no-package p o)
-      walk-stopped P.End o e = absurd (no-end run k short l e)
-      walk-stopped (P.Refused f) o e = walked (λ w. absurd (omega arith)) (λ b. keep-bad (kept rs m) run (inv .ps) k (inv .keeping) l (no-piece run k short l f e))
+      walk-stopped P.End o e = absurd (no-end run k short l (read-moved run k short P.End e))
+      walk-stopped (P.Refused f) o e = walked (λ w. absurd (omega arith)) (λ b. keep-bad (kept rs m) run (inv .ps) k (inv .keeping) l (no-piece run k short l (record { why = f .why; place = k + f .place }) (read-moved run k short (P.Refused f) e)))
 
-      module _ (room : 12 * first + length run ≤ 65536) (p : Package) (f : Found run k p) where
+      module _ (room : 12 * first + length run ≤ 65536) (p : Package) (f : Found run k (moved k p)) where
         abbrev done : List (List ℕ)
         done = inv .keeping .done
 
@@ -185,31 +190,31 @@ module _ (rs : List rows.Row) (m : Message) (run marks₀ : List ℕ) (first : �
             ∙ ap (λ (l : List Bool). fs ++ l) (sym (flags-more rs m done (f .c))) in
             rw (← n, ← a) z
 
-        abbrev keeps : (b : Bool) → b ≡ granted rs m (packageOf (f .c)) → Keeping (kept rs m) run (grow b (inv .ps) (packageOf (f .c))) (p .next)
-        keeps b g = keep-next (kept rs m) run (inv .ps) k (inv .keeping) l p f b (kept-snoc rs m done (f .c) ∙ ap (λ (x : Bool). grow x (kept rs m done) (packageOf (f .c))) (sym g))
+        abbrev keeps : (b : Bool) → b ≡ granted rs m (packageOf (f .c)) → Keeping (kept rs m) run (grow b (inv .ps) (packageOf (f .c))) (k + p .next)
+        keeps b g = keep-next (kept rs m) run (inv .ps) k (inv .keeping) l (moved k p) f b (kept-snoc rs m done (f .c) ∙ ap (λ (x : Bool). grow x (kept rs m done) (packageOf (f .c))) (sym g))
 
-        pub walk-next : (b : Bool) → b ≡ granted rs m (packageOf (f .c)) → Walking (withPackage s (p .next - k) b) (all + 1) (withBitIf marks (first + all) b) (p .next)
+        pub walk-next : (b : Bool) → b ≡ granted rs m (packageOf (f .c)) → Walking (withPackage s (p .next) b) (all + 1) (withBitIf marks (first + all) b) (k + p .next)
         walk-next true g = record {
           ps = inv .ps ++ (packageOf (f .c) ∷ []);
           keeping = keeps true g;
-          small = omega (arith, inv .small, on run k p f);
-          few = omega (arith, inv .few, on run k p f);
-          bytes = rw payload-more (omega (arith, inv .bytes, next-is run k p f, piece-length run k p f, length-append (payloadOf (inv .ps)) (pieceOf (packageOf (f .c)))));
+          small = omega (arith, inv .small, on run k (moved k p) f);
+          few = omega (arith, inv .few, on run k (moved k p) f);
+          bytes = rw payload-more (omega (arith, inv .bytes, next-is run k (moved k p) f, piece-length run k (moved k p) f, length-append (payloadOf (inv .ps)) (pieceOf (packageOf (f .c)))));
           packages = omega (arith, inv .packages, length-append (inv .ps) (packageOf (f .c) ∷ []));
           many = omega (arith, inv .many, length-append done (f .c ∷ []));
-          least = omega (arith, inv .least, next-is run k p f, least run k p f);
+          least = omega (arith, inv .least, next-is run k (moved k p) f, least run k (moved k p) f);
           long = length-with marks (first + all) true ∙ inv .long;
           marked = marked-more true g;
         }
         walk-next false g = record {
           ps = inv .ps;
           keeping = keeps false g;
-          small = omega (arith, inv .small, on run k p f);
-          few = omega (arith, inv .few, on run k p f);
+          small = omega (arith, inv .small, on run k (moved k p) f);
+          few = omega (arith, inv .few, on run k (moved k p) f);
           bytes = inv .bytes;
           packages = inv .packages;
           many = omega (arith, inv .many, length-append done (f .c ∷ []));
-          least = omega (arith, inv .least, next-is run k p f, least run k p f);
+          least = omega (arith, inv .least, next-is run k (moved k p) f, least run k (moved k p) f);
           long = length-with marks (first + all) false ∙ inv .long;
           marked = marked-more false g;
         }
@@ -289,48 +294,51 @@ module _ (marks : List ℕ) (first : ℕ) (run before : List ℕ) (to : ℕ) whe
     }
 
     module _ (short : length run ≤ 65536) (l : k < length run) where
-      pub store-stopped : (x : PackageRead) → NoPackage x → toldPackage x ≡ packageAt run k → StoredRun (picked marks first) run before after to (record { bytes = end - to; all = all })
+      pub store-stopped : (x : PackageRead) → NoPackage x → toldPackage x ≡ packageAt (drop k run) 0 → StoredRun (picked marks first) run before after to (record { bytes = end - to; all = all })
       store-stopped (P.Package p) o e = absurd (no-package p o)
-      store-stopped P.End o e = absurd (no-end run k short l e)
+      store-stopped P.End o e = absurd (no-end run k short l (read-moved run k short P.End e))
       store-stopped (P.Refused f) o e = record {
         small = omega (arith, inv .most, inv .keeping .inside);
         few = omega (arith, inv .few, inv .keeping .inside);
-        right = λ cs g. absurd (good≢bad (sym (keep-bad (picked marks first) run (inv .ps) k (inv .keeping) l (no-piece run k short l f e)) ∙ g));
+        right = λ cs g. absurd (good≢bad (sym (keep-bad (picked marks first) run (inv .ps) k (inv .keeping) l (no-piece run k short l (record { why = f .why; place = k + f .place }) (read-moved run k short (P.Refused f) e))) ∙ g));
       }
 
-      module _ (p : Package) (e : toldPackage (P.Package p) ≡ packageAt run k) where
-        abbrev f′ : Found run k p
-        f′ = found run k p e
+      module _ (p : Package) (e : toldPackage (P.Package p) ≡ packageAt (drop k run) 0) where
+        abbrev p′ : Package
+        p′ = moved k p
 
-        pub store-placed : Placed run k p
+        abbrev f′ : Found run k p′
+        f′ = found-behind run k short p e
+
+        pub store-placed : Placed (drop k run) p
         store-placed = placed run k p f′ short
 
-        abbrev keeps′ : (b : Bool) → b ≡ eqb (bitAt marks (first + all)) 1 → Keeping (picked marks first) run (grow b (inv .ps) (packageOf (f′ .c))) (p .next)
+        abbrev keeps′ : (b : Bool) → b ≡ eqb (bitAt marks (first + all)) 1 → Keeping (picked marks first) run (grow b (inv .ps) (packageOf (f′ .c))) (k + p .next)
         keeps′ b g =
-            keep-next (picked marks first) run (inv .ps) k (inv .keeping) l p f′ b
+            keep-next (picked marks first) run (inv .ps) k (inv .keeping) l p′ f′ b
             (picked-more marks first (inv .keeping .done) (f′ .c)
             ∙ ap (λ (n : ℕ). grow (eqb (bitAt marks (first + n)) 1) (picked marks first (inv .keeping .done)) (packageOf (f′ .c))) (sym (inv .many))
             ∙ ap (λ (x : Bool). grow x (picked marks first (inv .keeping .done)) (packageOf (f′ .c))) (sym g))
 
         pub store-next : Bytes run → (b : Bool) → b ≡ eqb (bitAt marks (first + all)) 1 → (out : List ℕ) (r : ℕ)
-            → Stored after out end r b (pieceAs run k p) (p .next - k) → Storing out r (all + 1) (p .next)
+            → Stored after out end r b (pieceAs (drop k run) p) (p .next) → Storing out r (all + 1) (k + p .next)
         store-next y true g out r w = record {
           ps = inv .ps ++ (packageOf (f′ .c) ∷ []);
           keeping = keeps′ true g;
           least = omega (arith, inv .least, w .behind);
-          most = omega (arith, inv .most, w .behind, on run k p f′);
+          most = omega (arith, inv .most, w .behind, on run k p′ f′);
           many = omega (arith, inv .many, length-append (inv .keeping .done) (f′ .c ∷ []));
-          few = omega (arith, inv .few, on run k p f′);
-          ends = rw payload-more (omega (arith, inv .ends, w .behind, next-is run k p f′, piece-length run k p f′, length-append (payloadOf (inv .ps)) (pieceOf (packageOf (f′ .c)))));
+          few = omega (arith, inv .few, on run k p′ f′);
+          ends = rw payload-more (omega (arith, inv .ends, w .behind, next-is run k p′ f′, piece-length run k p′ f′, length-append (payloadOf (inv .ps)) (pieceOf (packageOf (f′ .c)))));
           stored = rw (payload-more, w .bytes, piece-is run k p f′ y, inv .stored, inv .ends) (sets-sets (payloadOf (inv .ps)) (pieceOf (packageOf (f′ .c))) before to);
         }
         store-next y false g out r w = record {
           ps = inv .ps;
           keeping = keeps′ false g;
           least = omega (arith, inv .least, w .behind);
-          most = omega (arith, inv .most, w .behind, on run k p f′);
+          most = omega (arith, inv .most, w .behind, on run k p′ f′);
           many = omega (arith, inv .many, length-append (inv .keeping .done) (f′ .c ∷ []));
-          few = omega (arith, inv .few, on run k p f′);
+          few = omega (arith, inv .few, on run k p′ f′);
           ends = rw (w .behind) (inv .ends);
           stored = rw (w .bytes) (inv .stored);
         }

@@ -8,8 +8,8 @@ use native.Mathlib.Numerals.{add-one}
 use native.Mathlib.Omega.{arith}
 use borrow.Author.Tests.{eqb-true, eqb-false}
 use lib.Dec.{eqb}
-use lib.ListN.{length, getD, take, drop, set, replicate, length-drop, length-replicate, replicate-append-replicate}
-use lib.Seq.{sets, set-set, set-comm, take-suc, take-add, drop-drop, drop-cons, length-take-le}
+use lib.ListN.{length, getD, take, drop, set, replicate, length-replicate, replicate-append-replicate}
+use lib.Seq.{sets, set-set, set-comm, take-suc, take-add, drop-cons, length-take-le}
 use Rattle.rules.specs.Bytes.{Bytes, word, put32, part}
 use Rattle.rules.proofs.Numbers.{put32-at}
 use Rattle.rules.proofs.Loops.{sets-sets, set-before}
@@ -68,64 +68,56 @@ stored-anew xs ys b i y z =
     ∙ ap (λ (l : List ℕ). sets l (suc j) ys) (set-set c j y z) ∙ sets-sets xs (z ∷ ys) b i
 
 -- the stores of a package: its last word is zero first, its own bytes go over what is not padding, and its reserved byte is zero then
-module _ (run : List ℕ) (k : ℕ) (p : Package) (b : List ℕ) (at : ℕ) (in-place : Placed run k p) (y : Bytes run) {x : ℕ} {b1 b2 b3 b4 : List ℕ} (first : x ≡ word run k)
-    (e1 : b1 ≡ sets b (at + (p .next - k - 4)) (put32 0 [])) (e2 : b2 ≡ sets b1 at (put32 x []))
-    (e3 : b3 ≡ sets b2 (at + 4) (part (k + 4) (k + 4 + (p .to - k - 4)) run)) (e4 : b4 ≡ sets b3 (at + 6) (0 ∷ [])) where
+module _ (run : List ℕ) (p : Package) (b : List ℕ) (at : ℕ) (in-place : Placed run p) (y : Bytes run) {x : ℕ} {b1 b2 b3 b4 : List ℕ} (first : x ≡ word run 0)
+    (e1 : b1 ≡ sets b (at + (p .next - 4)) (put32 0 [])) (e2 : b2 ≡ sets b1 at (put32 x [])) (e3 : b3 ≡ sets b2 (at + 4) (part 4 (4 + (p .to - 4)) run)) (e4 : b4 ≡ sets b3 (at + 6) (0 ∷ [])) where
   abbrev own : List ℕ
-  own = part k (k + (p .to - k)) run
+  own = take (p .to) run
 
   abbrev six : List ℕ
-  six = part k (k + 6) run
+  six = take 6 run
 
   abbrev seventh : ℕ
-  seventh = getD run (k + 6) 0
+  seventh = getD run 6 0
 
   abbrev tail : List ℕ
-  tail = part (k + 7) (p .to) run
+  tail = part 7 (p .to) run
 
   abbrev zeros : List ℕ
   zeros = replicate (p .next - p .to) 0
 
-  length-own : length own ≡ p .to - k
-  length-own =
-      let n : k + (p .to - k) - k ≡ p .to - k = omega arith in
-      rw n (length-take-le (p .to - k) (drop k run) (omega (arith, length-drop k run, in-place .front, in-place .padding, in-place .inside)))
+  length-own : length own ≡ p .to
+  length-own = length-take-le (p .to) run (omega (arith, in-place .padding, in-place .inside))
 
   length-six : length six ≡ 6
-  length-six =
-      let n : k + 6 - k ≡ 6 = omega arith in
-      rw n (length-take-le 6 (drop k run) (omega (arith, length-drop k run, in-place .front, in-place .padding, in-place .inside)))
+  length-six = length-take-le 6 run (omega (arith, in-place .front, in-place .padding, in-place .inside))
 
   own-is : own ≡ six ++ (seventh ∷ tail)
   own-is =
-      let n : k + (p .to - k) - k ≡ 6 + suc (p .to - (k + 7)) = omega (arith, in-place .front) in
-      let m : k + 6 - k ≡ 6 = omega arith in
-      let o : suc (k + 6) ≡ k + 7 = omega arith in
-      rw (n, m, take-add 6 (suc (p .to - (k + 7))) (drop k run), drop-drop 6 k run)
-      (ap (λ (l : List ℕ). take 6 (drop k run) ++ take (suc (p .to - (k + 7))) l)
-      (drop-cons run (k + 6) 0 (omega (arith, in-place .front, in-place .padding, in-place .inside))) ∙ rw o)
+      let n : p .to ≡ 6 + suc (p .to - 7) = omega (arith, in-place .front) in
+      ap (λ (i : ℕ). take i run) n ∙ take-add 6 (suc (p .to - 7)) run
+      ∙ ap (λ (l : List ℕ). six ++ take (suc (p .to - 7)) l) (drop-cons run 6 0 (omega (arith, in-place .front, in-place .padding, in-place .inside)))
 
   -- the first word, and the bytes behind it
   abbrev front : List ℕ
-  front = take 4 (drop k run)
+  front = take 4 run
 
   abbrev behind : List ℕ
-  behind = take (p .to - k - 4) (drop (k + 4) run)
+  behind = take (p .to - 4) (drop 4 run)
 
   in-two : b3 ≡ sets b1 at own
   in-two =
-      let n : k + (p .to - k) - k ≡ 4 + (p .to - k - 4) = omega (arith, in-place .front) in
-      let m : k + 4 + (p .to - k - 4) - (k + 4) ≡ p .to - k - 4 = omega arith in
-      let w : put32 x [] ≡ front = ap (λ (v : ℕ). put32 v []) first ∙ put32-at k run [] y (omega (arith, in-place .front, in-place .padding, in-place .inside)) ∙ append-nil front in
-      let l : length front ≡ 4 = length-take-le 4 (drop k run) (omega (arith, length-drop k run, in-place .front, in-place .padding, in-place .inside)) in
-      let all : own ≡ front ++ behind = ap (λ (i : ℕ). take i (drop k run)) n ∙ take-add 4 (p .to - k - 4) (drop k run) ∙ ap (λ (t : List ℕ). front ++ take (p .to - k - 4) t) (drop-drop 4 k run) in
-      e3 ∙ ap (λ (i : ℕ). sets b2 (at + 4) (take i (drop (k + 4) run))) m ∙ ap (λ (c : List ℕ). sets c (at + 4) behind) (e2 ∙ ap (sets b1 at) w)
+      let n : p .to ≡ 4 + (p .to - 4) = omega (arith, in-place .front) in
+      let m : 4 + (p .to - 4) - 4 ≡ p .to - 4 = omega arith in
+      let w : put32 x [] ≡ front = ap (λ (v : ℕ). put32 v []) first ∙ put32-at 0 run [] y (omega (arith, in-place .front, in-place .padding, in-place .inside)) ∙ append-nil front in
+      let l : length front ≡ 4 = length-take-le 4 run (omega (arith, in-place .front, in-place .padding, in-place .inside)) in
+      let all : own ≡ front ++ behind = ap (λ (i : ℕ). take i run) n ∙ take-add 4 (p .to - 4) run in
+      e3 ∙ ap (λ (i : ℕ). sets b2 (at + 4) (take i (drop 4 run))) m ∙ ap (λ (c : List ℕ). sets c (at + 4) behind) (e2 ∙ ap (sets b1 at) w)
       ∙ ap (λ (i : ℕ). sets (sets b1 at front) (at + i) behind) (sym l) ∙ sets-sets front behind b1 at ∙ ap (sets b1 at) (sym all)
 
-  pub package-all : b4 ≡ sets b at (pieceAs run k p)
+  pub package-all : b4 ≡ sets b at (pieceAs run p)
   unfolding pieceAs
   package-all =
-      let padded : b3 ≡ sets b at (own ++ zeros) = in-two ∙ rw e1 (zeros-left own b at (at + (p .next - k - 4)) (p .next - p .to) (omega (arith, in-place .little)) (omega arith) (omega (arith, length-own, in-place .front, in-place .padding))) in
+      let padded : b3 ≡ sets b at (own ++ zeros) = in-two ∙ rw e1 (zeros-left own b at (at + (p .next - 4)) (p .next - p .to) (omega (arith, in-place .little)) (omega arith) (omega (arith, length-own, in-place .front, in-place .padding))) in
       let split : b3 ≡ sets b at (six ++ (seventh ∷ tail ++ zeros)) = padded ∙ ap (λ (l : List ℕ). sets b at (l ++ zeros)) own-is ∙ ap (sets b at) (append-assoc six (seventh ∷ tail) zeros) in
       e4 ∙ ap (λ (l : List ℕ). set l (at + 6) 0) split ∙ ap (λ (n : ℕ). set (sets b at (six ++ (seventh ∷ tail ++ zeros))) (at + n) 0) (sym length-six)
       ∙ stored-anew six (tail ++ zeros) b at seventh 0 ∙ ap (sets b at) (sym (append-assoc six (0 ∷ tail) zeros))

@@ -7,7 +7,7 @@ use lib.Dec.{ltb, eqb}
 use lib.ListN.{length, getD, take, drop, set, replicate}
 use lib.Seq.{sets}
 use Rattle.rules.specs.Outcome.{good, bad, PACKAGE}
-use Rattle.rules.specs.Bytes.{put16, put32, part, join}
+use Rattle.rules.specs.Bytes.{put32, part, join}
 use Rattle.rules.specs.Packages as rules
 use Rattle.rules.specs.Packages.{cut, packageOf, pieceOf}
 use Rattle.rules.specs.Items.{items, count}
@@ -137,13 +137,13 @@ entered t s false = record { bytes = t .bytes + 24 + s .bytes; messages = t .mes
 abbrev pub withEntry : Totals → Size → Totals
 withEntry t s = entered t s (eqb (s .packages) 0)
 
--- the bytes of package p, which stands at place k of run, reserved byte and padding zero
-unfoldable pub pieceAs : List ℕ → ℕ → Package → List ℕ
-pieceAs run k p = part k (k + 6) run ++ (0 ∷ part (k + 7) (p .to) run) ++ replicate (p .next - p .to) 0
+-- the bytes of package p, which stands at the start of run, reserved byte and padding zero
+unfoldable pub pieceAs : List ℕ → Package → List ℕ
+pieceAs run p = take 6 run ++ (0 ∷ part 7 (p .to) run) ++ replicate (p .next - p .to) 0
 
--- the numbers of p, which stands at place k of run, are in order
-pub record Placed (run : List ℕ) (k : ℕ) (p : Package) : Type 0 where
-  pub front : k + 12 ≤ p .to
+-- the numbers of p, which stands at the start of run, are in order
+pub record Placed (run : List ℕ) (p : Package) : Type 0 where
+  pub front : 12 ≤ p .to
   pub padding : p .to ≤ p .next
   pub little : p .next ≤ p .to + 3
   pub inside : p .next ≤ length run

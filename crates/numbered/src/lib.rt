@@ -67,7 +67,8 @@ struct Walked {
 }
 
 // Walks over the packages of a run, to its end or to a place where no package stands. Of each it marks whether it is granted, so that nobody asks again:
-// the first has the mark `first`. Only the rows that can grant something in this message are asked, which `near` is lent for.
+// the first has the mark `first`. Only the rows that can grant something in this message are asked, which `near` is lent for. It goes by what is left of the
+// run, as `message::count_packages` does.
 fn measure_packages(
     run: &[u8],
     h: Header,
@@ -85,22 +86,24 @@ fn measure_packages(
         packages: 0,
     };
     let mut all = 0;
-    let mut at = 0;
-    while at < run.len() {
-        let found = package_at(run, at);
+    let mut rest = run;
+    while 0 < rest.len() {
+        let found = package_at(rest, 0);
         let PackageRead::Package(p) = found else {
-            return Walked { size, all, end: at };
+            let end = run.len() - rest.len();
+            return Walked { size, all, end };
         };
         let next = p.next;
         let id = p.id;
         let time = package_time(h.seconds, h.nanos, p.delta);
         let granted = near_grants(&near[..many], id, time);
         put_bit(marks, first + all, granted);
-        size = with_package(size, next - at, granted);
+        size = with_package(size, next, granted);
         all += 1;
-        at = next;
+        rest = &rest[next..];
     }
-    Walked { size, all, end: at }
+    let end = run.len();
+    Walked { size, all, end }
 }
 
 // A message that passes every check, and what is granted of it; or why it is refused.
@@ -396,36 +399,29 @@ fn put_words(out: &mut [u8], at: usize, first: u32, second: u32)
     put_word(out, at + 4, second);
 }
 
-// Stores package p, which stands at place k of a run, from `at` on, reserved byte and padding zero.
-fn write_package(run: &[u8], k: usize, p: Package, out: &mut [u8], at: usize)
-    requires { ⌜ (at ≤ 262144) × Placed (now run) k p ⌝ }
-    ensures { λ _. ⌜ now (out .exit) ≡ sets (now (out .entry)) at (pieceAs (now (run .entry)) k p) ⌝ }
+// Stores package p, which stands at the start of a run, from `at` on, reserved byte and padding zero.
+fn write_package(run: &[u8], p: Package, out: &mut [u8], at: usize)
+    requires { ⌜ (at ≤ 262144) × Placed (now run) p ⌝ }
+    ensures { λ _. ⌜ now (out .exit) ≡ sets (now (out .entry)) at (pieceAs (now (run .entry)) p) ⌝ }
 {
-    let content = p.to - k;
-    let size = p.next - k;
+    let content = p.to;
+    let size = p.next;
     // The last word is stored as zeros first: what the package's own bytes leave of it is the padding, and no branch asks how long that is. The first
     // word is stored by itself: stored with the others, a package without data took half as long again.
     put_word(out, at + (size - 4), 0);
-    put_word(out, at, word_at(run, k));
-    put_part(out, at + 4, run, k + 4, content - 4);
+    put_word(out, at, word_at(run, 0));
+    put_part(out, at + 4, run, 4, content - 4);
     put_byte(out, at + 6, 0);
 }
 
 // Stores it, if it is granted, and says where the next one goes.
-fn write_granted(
-    run: &[u8],
-    k: usize,
-    p: Package,
-    granted: bool,
-    out: &mut [u8],
-    at: usize,
-) -> usize
-    requires { ⌜ (at ≤ 196608) × Placed (now run) k p ⌝ }
-    ensures { λ r. ⌜ Stored (now (out .entry)) (now (out .exit)) at r granted (pieceAs (now (run .entry)) k p) (p .next - k) ⌝ }
+fn write_granted(run: &[u8], p: Package, granted: bool, out: &mut [u8], at: usize) -> usize
+    requires { ⌜ (at ≤ 196608) × Placed (now run) p ⌝ }
+    ensures { λ r. ⌜ Stored (now (out .entry)) (now (out .exit)) at r granted (pieceAs (now (run .entry)) p) (p .next) ⌝ }
 {
     if granted {
-        write_package(run, k, p, out, at);
-        return at + (p.next - k);
+        write_package(run, p, out, at);
+        return at + p.next;
     }
     at
 }
@@ -443,9 +439,9 @@ fn write_packages(run: &[u8], marks: &[u8], first: usize, out: &mut [u8], to: us
 {
     let mut end = to;
     let mut all = 0;
-    let mut at = 0;
-    while at < run.len() {
-        let found = package_at(run, at);
+    let mut rest = run;
+    while 0 < rest.len() {
+        let found = package_at(rest, 0);
         let PackageRead::Package(p) = found else {
             return Kept {
                 bytes: end - to,
@@ -453,9 +449,9 @@ fn write_packages(run: &[u8], marks: &[u8], first: usize, out: &mut [u8], to: us
             };
         };
         let behind = p.next;
-        end = write_granted(run, at, p, bit_at(marks, first + all), out, end);
+        end = write_granted(rest, p, bit_at(marks, first + all), out, end);
         all += 1;
-        at = behind;
+        rest = &rest[behind..];
     }
     Kept {
         bytes: end - to,

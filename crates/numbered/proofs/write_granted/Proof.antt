@@ -7,9 +7,6 @@ use Rattle.numbered.proofs.write_granted.Tie as tie
 write-package-requires : tie.Need-write-package-requires
 write-package-requires c κs = search needs
 
-sub-result : tie.Need-sub-result
-sub-result c = search needs
-
 add-result : tie.Need-add-result
 add-result c = search needs
 
@@ -24,4 +21,4 @@ returns-2 c = search needs
 
 pub write-granted-spec : {M : Type 1} → statement M
 write-granted-spec =
-    tie.close (tie.spec write-package-requires sub-result add-result same-length returns returns-2)
+    tie.close (tie.spec write-package-requires add-result same-length returns returns-2)

@@ -6,12 +6,6 @@ use Rattle.numbered.proofs.Stores.{package-all}
 use Rattle.numbered.proofs.write_package.Statement.{statement}
 use Rattle.numbered.proofs.write_package.Tie as tie
 
-sub-content : tie.Need-sub-content
-sub-content c = search needs
-
-sub-size : tie.Need-sub-size
-sub-size c = search needs
-
 sub-put-word : tie.Need-sub-put-word
 sub-put-word c = search needs
 
@@ -30,9 +24,6 @@ put-word-requires-2 c κs = search needs
 add-put-part : tie.Need-add-put-part
 add-put-part c = search needs
 
-add-put-part-2 : tie.Need-add-put-part-2
-add-put-part-2 c = search needs
-
 sub-put-part : tie.Need-sub-put-part
 sub-put-part c = search needs
 
@@ -50,23 +41,20 @@ same-length c = search needs
 
 returns : tie.Need-returns
 returns c =
-    let s = c .before .before .before .before .before .before .before .before .before .before .before .before .before .before .before .before .before .before .before .before .before in
-    package-all (s .args .run .now) (s .args .k) (s .args .p) (s .args .out .now) (s .args .at) (s .pre .1) (premises-met .bytes _ (λ k. omega (arith, c .before .before .before .before .before .before .before .before .before .before .before .before .before .before .before .before .before .before .before .before .shared-slice-known .given k)))
-    (c .before .before .before .before .before .before .before .before .before .before .before .word-at .ensures) (c .before .before .before .before .before .before .before .before .before .before .before .before .before .before .before .put-word .ensures) (c .before .before .before .before .before .before .before .before .before .before .put-word2 .ensures) (c .before .before .before .before .before .before .put-part .ensures) (c .before .before .put-byte .ensures)
+    let s = c .before .before .before .before .before .before .before .before .before .before .before .before .before .before .before .before .before .before .before in
+    package-all (s .args .run .now) (s .args .p) (s .args .out .now) (s .args .at) (s .pre .1) (premises-met .bytes _ (λ k. omega (arith, c .before .before .before .before .before .before .before .before .before .before .before .before .before .before .before .before .before .before .shared-slice-known .given k))) (c .before .before .before .before .before .before .before .before .before .before .before .word-at .ensures) (c .before .before .before .before .before .before .before .before .before .before .before .before .before .before .before .put-word .ensures)
+    (c .before .before .before .before .before .before .before .before .before .before .put-word2 .ensures) (c .before .before .before .before .before .before .put-part .ensures) (c .before .before .put-byte .ensures)
 
 pub write-package-spec : {M : Type 1} → statement M
 write-package-spec =
     tie.close
     (tie.spec
-    sub-content
-    sub-size
     sub-put-word
     add-put-word
     put-word-requires
     word-at-requires
     put-word-requires-2
     add-put-part
-    add-put-part-2
     sub-put-part
     put-part-requires
     add-put-byte
