@@ -734,17 +734,23 @@ fn span_from_ten(m: &[u8], h: Header, p: usize) -> Span
     }
 }
 
-// The span of the message at place `at` of a recording.
+// The span of the message at place `at` of a recording. As `message_at` it calls `checked_run` itself, which then stays a function by itself in every
+// program that has `check` and `front_run`, so that these become part of their callers' loops.
 fn span_at(s: &[u8], at: usize) -> Span
     ensures { λ r. ⌜ spec.toldSpan r ≡ spec.spanOf (reading.messageAt (now (s .entry)) at) ⌝ }
 {
-    match front_run(s, at) {
-        Count::Refused(r) => Span::Refused(r),
-        Count::Number(run) => {
-            let head = header_in(s, at, run);
-            span_from_ten(&s[at..], head, at)
+    let run = if plain_at(s, at) {
+        0
+    } else {
+        match checked_run(s, at, true) {
+            Count::Refused(r) => {
+                return Span::Refused(r);
+            }
+            Count::Number(n) => n,
         }
-    }
+    };
+    let head = header_in(s, at, run);
+    span_from_ten(&s[at..], head, at)
 }
 
 // How many messages and packages a recording has.
