@@ -568,7 +568,7 @@ pub fn write_capture(recording: &[u8], port: u16, out: &mut [u8]) -> CaptureWrit
         // A message that is refused comes before one whose clean form is too large, wherever it stands.
         Weighed::Refused(f) => match message::check(recording) {
             Checked::Refused(g) => CaptureWritten::Refused(g),
-            Checked::Passed { messages, packages } => CaptureWritten::Refused(f),
+            Checked::Passed { .. } => CaptureWritten::Refused(f),
         },
         Weighed::Fits(t) => {
             if out.len() < t.bytes {

@@ -21,7 +21,8 @@ use Rattle.ids.specs.Parts.{restAt, formOf, readOn, faultAt, pairFits, h
 use Rattle.ids.specs.declared.IdRange.{IdRange}
 use Rattle.ids.specs.declared.LineRead.{LineRead}
 use Rattle.ids.specs.declared.IdsAnswer.the-variants as Answer
-use Rattle.ids.proofs.Ends.{many}
+use Rattle.rules.proofs.Growing.{map-append}
+use Rattle.ids.proofs.Ends.{many, ranges-more}
 use Rattle.ids.proofs.Steps.{rest-none, rest-odd, rest-list, list-broken, list-then}
 
 module _ (done : List Range) where
@@ -87,19 +88,10 @@ unfolding rangesIn
 ranges-zero zero = refl
 ranges-zero (suc m) = let z : 2 * suc m ≡ suc (suc (2 * m)) = omega arith in rw z (ap (λ (l : List Range). noRange ∷ l) (ranges-zero m))
 
--- one more
-ranges-more : (n m : ℕ) (l : List ℕ) (a b : ℕ) → n < m → 2 * n + 1 < length l
-    → take (n + 1) (map rangeIn (rangesIn m (withRange l n a b))) ≡ take n (map rangeIn (rangesIn m l)) ++ (record { first = a; last = b } ∷ [])
-unfolding rangesIn
-ranges-more n zero l a b h k = absurd (omega arith)
-ranges-more n (suc m) [] a b h k = absurd (omega arith)
-ranges-more n (suc m) (x ∷ []) a b h k = absurd (omega arith)
-ranges-more zero (suc m) (x ∷ y ∷ l) a b h k = refl
-ranges-more (suc n) (suc m) (x ∷ y ∷ l) a b h k =
-    let z : 2 * suc n ≡ suc (suc (2 * n)) = omega arith in
-    let w : 2 * suc n + 1 ≡ suc (suc (2 * n + 1)) = omega arith in
-    let v : suc n + 1 ≡ suc (n + 1) = omega arith in
-    rw (w, z, v) (ap (λ (q : List Range). record { first = x; last = y } ∷ q) (ranges-more n m l a b (omega arith) (omega arith)))
+map-take : (n : ℕ) (l : List IdRange) → take n (map rangeIn l) ≡ map rangeIn (take n l)
+map-take zero l = refl
+map-take (suc n) [] = refl
+map-take (suc n) (r ∷ l) = ap (λ (q : List Range). rangeIn r ∷ q) (map-take n l)
 
 pub held-start : Held (replicate 64 0) 0
 held-start = record { few = omega arith; long = refl; behind = refl }
@@ -129,7 +121,7 @@ module _ (numbers : List ℕ) (n : ℕ) (held : Held numbers n) where
         }
 
     seen-next : take (n + 1) (heldRanges (withRange numbers n a b)) ≡ seen ++ (record { first = a; last = b } ∷ [])
-    seen-next = ranges-more n 32 numbers a b h (omega (arith, held .long))
+    seen-next = rw (map-take, map-take, ranges-more n 32 numbers a b h (omega (arith, held .long))) (map-append rangeIn (take n (rangesIn 32 numbers)) _)
 
   -- the item at place p, and what is answered
   module _ (s : List ℕ) (p : ℕ) where

@@ -221,7 +221,7 @@ fn read_list(s: &[u8], at: usize, numbers: &mut [u32], n: usize) -> LineRead
     if s[at] != 44 {
         return refuse(at);
     }
-    // Copied as a whole, what was read is waited for byte by byte at each item: lines of many ranges took a half longer.
+    // Handed on as a whole, it would be copied with the bytes that no case uses, and each item would wait for that: lines of many ranges took a half longer.
     match read_item(s, at + 1, numbers, n) {
         LineRead::Ranges(count) => LineRead::Ranges(count),
         LineRead::Refused(f) => LineRead::Refused(f),

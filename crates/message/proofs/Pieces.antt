@@ -103,7 +103,6 @@ start p s = record { done = []; many = refl; few = omega arith; inside = omega a
 
 pub record Onward (p : ℕ) (s : List ℕ) (i n k : ℕ) : Type 0 where
   pub least : 1 ≤ k
-  pub most : i + k ≤ length s
   pub counting : Counting p s (i + k) (n + 1)
 
 module _ (p : ℕ) (s : List ℕ) (i n : ℕ) (c : Counting p s i n) where
@@ -112,7 +111,6 @@ module _ (p : ℕ) (s : List ℕ) (i n : ℕ) (c : Counting p s i n) where
       let t : Taking (drop i s) k = takes (drop i s) k (sym e) in
       record {
         least = omega (arith, t .more);
-        most = omega (arith, t .most, length-drop i s);
         counting = record {
           done = c .done ++ (take k (drop i s) ∷ []);
           many = omega (arith, length-append (c .done) (take k (drop i s) ∷ []), c .many);

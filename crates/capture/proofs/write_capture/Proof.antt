@@ -1,22 +1,20 @@
 -- `capture::write_capture` meets its contract: a law for each answer.
-use Prim.Native.Nat.{_≤_}
 use mathlib.Core.Path.{_≡_, ap, sym, _∙_}
 use borrow.Author.Needs.{needs}
-use lib.ListN.{length}
 use Rattle.rules.specs.Outcome.{good}
 use Rattle.message.specs.Answers.{toldCheck}
 use Rattle.message.proofs.Messages.{too-large}
 use Rattle.capture.specs.Told.{weighed, toldWeighed}
-use Rattle.capture.proofs.Laying.{Checked, checked, checked-by, check-refused, weigh-refused, Measured, measured, no-room, roomy, done-with}
+use Rattle.capture.proofs.Laying.{Checked, checked, checked-by, check-refused, weigh-refused, measured, no-room, roomy, done-with}
 use Rattle.capture.proofs.write_capture.Statement.{statement}
 use Rattle.capture.proofs.write_capture.Tie as tie
 
 -- all messages were weighed
-weight : (c : tie.After-known-told4) → good (c .before .t .given .0 .0) ≡ weighed (c .before .before .before .before .before .before .before .args .recording .now) (c .before .before .before .before .before .before .before .args .port)
+weight : (c : tie.After-known-told3) → good (c .before .t .given .0 .0) ≡ weighed (c .before .before .before .before .before .before .before .args .recording .now) (c .before .before .before .before .before .before .before .args .port)
 weight c = ap toldWeighed (sym (c .before .t .given .1)) ∙ c .before .before .before .weigh .ensures .right (c .before .before .before .before .before .before .before .args .port)
 
 -- so that all pass
-passes : (c : tie.After-known-told4) → Checked (c .before .before .before .before .before .before .before .args .recording .now)
+passes : (c : tie.After-known-told3) → Checked (c .before .before .before .before .before .before .before .args .recording .now)
 passes c = checked-by _ (c .before .before .before .before .before .before .before .args .port) _ (search needs) (weight c)
 
 returns : tie.Need-returns
@@ -34,8 +32,8 @@ check-requires c κs = search needs
 enum-known-g : tie.Need-enum-known-g
 enum-known-g c = search needs
 
-enum-known-messages : tie.Need-enum-known-messages
-enum-known-messages c = search needs
+enum-told : tie.Need-enum-told
+enum-told c = search needs
 
 enum-known-t : tie.Need-enum-known-t
 enum-known-t c = search needs
@@ -57,9 +55,9 @@ returns-3 c = let s = c .before .before .before .before .before .before .before 
 
 returns-4 : tie.Need-returns-4
 returns-4 c =
-    let s = c .before .before .before .before .before .before .before .before .before .before .before in
-    let k = checked (s .args .recording .now) _ _ (ap toldCheck (sym (c .before .messages .given .1)) ∙ c .before .before .before .check .ensures) in
-    weigh-refused (s .args .recording .now) (s .args .port) (s .args .out .now) k _ _ (ap toldWeighed (sym (c .before .before .before .before .before .f .given .1)) ∙ c .before .before .before .before .before .before .before .weigh .ensures .right (s .args .port))
+    let s = c .before .before .before .before .before .before .before .before .before .before in
+    let k = checked (s .args .recording .now) _ _ (ap toldCheck (sym (c .enum-told .given .1)) ∙ c .before .before .check .ensures) in
+    weigh-refused (s .args .recording .now) (s .args .port) (s .args .out .now) k _ _ (ap toldWeighed (sym (c .before .before .before .before .f .given .1)) ∙ c .before .before .before .before .before .before .weigh .ensures .right (s .args .port))
 
 same-length : tie.Need-same-length
 same-length c = search needs
@@ -79,7 +77,7 @@ write-capture-spec =
     enum-known-f
     check-requires
     enum-known-g
-    enum-known-messages
+    enum-told
     enum-known-t
     returns-2
     lay-requires
