@@ -7,18 +7,18 @@ use native.Mathlib.Omega.{arith}
 use lib.ListN.{length, get_or, set, take, drop, length-set, length-append, length-drop, drop_of_length-le, take-append-drop}
 use lib.Seq.{take_all, length-take-le, take-suc-set, drop-set-lt, drop-cons, append_snoc, take_at, drop_at}
 use borrow.Rule.Slice.PartMut.{put_mid}
-use Rattle.rules.specs.Burst.{◌xor◌, sequenceByte, sequenceBytes, randomized}
-use Rattle.rules.proofs.Sequence.{bytes-at, randomized-length, randomized-append, randomized-periods}
+use Rattle.rules.specs.Burst.{◌xor◌, sequence_byte, sequence_bytes, randomized}
+use Rattle.rules.proofs.Sequence.{bytes-at, randomized-length, randomized-append, randomized_periods}
 
 -- s with what is left of it, its bytes from k on, randomized from byte j of the sequence on
 abbrev pub left : ℕ → ℕ → List ℕ → List ℕ
 left j k s = take k s ++ randomized j (drop k s)
 
 -- what is still to be randomized, one byte fewer
-one_less : (j k : ℕ) (s : List ℕ) → k < length s → left (suc j) (suc k) (set s k (get_or s k 0 xor sequenceByte j)) ≡ left j k s
+one_less : (j k : ℕ) (s : List ℕ) → k < length s → left (suc j) (suc k) (set s k (get_or s k 0 xor sequence_byte j)) ≡ left j k s
 unfolding randomized
 one_less j k s h =
-    let v = get_or s k 0 xor sequenceByte j in
+    let v = get_or s k 0 xor sequence_byte j in
     rw (take-suc-set s k v h, drop-set-lt (suc k) s k v (omega arith), drop-cons s k 0 h) (append_snoc (take k s) v (randomized (suc j) (drop (suc k) s)))
 
 -- and nothing
@@ -30,7 +30,7 @@ none_left j k s h = rw (take_all k s h, drop_of_length-le s h) (append-nil s)
 pub goes_on : (a f : ℕ) (s : List ℕ) → a % 255 ≡ f → randomized a s ≡ randomized f s
 goes_on a f s w =
     let e : a ≡ 255 * (a / 255) + f = omega arith in
-    ap (λ (n : ℕ). randomized n s) e ∙ randomized-periods (a / 255) f s
+    ap (λ (n : ℕ). randomized n s) e ∙ randomized_periods (a / 255) f s
 
 in_two : (a f k : ℕ) (s : List ℕ) → a % 255 ≡ f → k ≤ length s → randomized a s ≡ randomized f (take k s) ++ randomized (a + k) (drop k s)
 in_two a f k s w h =
@@ -53,25 +53,25 @@ behind f a s ys q =
     let all : length (drop a s) ≤ length s - a = omega (arith, length-drop a s) in
     rw (q, take_all (length s - a) (drop a s) all, drop_of_length-le (drop a s) all) (ap (λ (t : List ℕ). take a s ++ t) (append-nil (randomized f (drop a s))))
 
-bytes-long : (n k : ℕ) → length (sequenceBytes k n) ≡ n
-unfolding sequenceBytes
+bytes-long : (n k : ℕ) → length (sequence_bytes k n) ≡ n
+unfolding sequence_bytes
 bytes-long zero k = refl
 bytes-long (suc n) k = ap suc (bytes-long n (suc k))
 
 -- a table of the sequence's first n bytes, and what whoever lends it shows where m of them are used
-module _ (n : ℕ) (t : List ℕ) (e : t ≡ sequenceBytes 0 n) where
-  pub table-long : length t ≡ n
-  table-long = ap length e ∙ bytes-long n 0
+module _ (n : ℕ) (t : List ℕ) (e : t ≡ sequence_bytes 0 n) where
+  pub table_long : length t ≡ n
+  table_long = ap length e ∙ bytes-long n 0
 
-  pub lent : (m : ℕ) → m ≤ n → (m ≤ length t) × (t ≡ sequenceBytes 0 (length t))
-  lent m h = (rw table-long h, e ∙ ap (sequenceBytes 0) (sym table-long))
+  pub lent : (m : ℕ) → m ≤ n → (m ≤ length t) × (t ≡ sequence_bytes 0 (length t))
+  lent m h = (rw table_long h, e ∙ ap (sequence_bytes 0) (sym table_long))
 
 -- what is still to be randomized, one byte fewer: byte k, by entry j of the table
-pub byte-less : (n : ℕ) (t s : List ℕ) (j k : ℕ) → t ≡ sequenceBytes 0 n → j < n → k < length s → left (suc j) (suc k) (set s k (get_or s k 0 xor get_or t j 0)) ≡ left j k s
+pub byte-less : (n : ℕ) (t s : List ℕ) (j k : ℕ) → t ≡ sequence_bytes 0 n → j < n → k < length s → left (suc j) (suc k) (set s k (get_or s k 0 xor get_or t j 0)) ≡ left j k s
 byte-less n t s j k e l h = rw (e, bytes-at n 0 j l, zero-add) (one_less j k s h)
 
 -- three bytes or fewer, one by one
-module _ (t : List ℕ) (e : t ≡ sequenceBytes 0 255) where
+module _ (t : List ℕ) (e : t ≡ sequence_bytes 0 255) where
   -- s with byte k randomized by the table
   abbrev with : List ℕ → ℕ → List ℕ
   with s k = set s k (get_or s k 0 xor get_or t k 0)

@@ -1,7 +1,7 @@
 // Bursts: the randomizer, which works in a lent buffer, and the opening of a burst.
 ghost use Rattle.std.specs.Prelude.{◌+◌, ◌≤◌, ◌≡◌, length};
-ghost use Rattle.rules.specs.Burst.{sequenceBytes, randomized, marked, blocksFit, codeblocks, randomizer, opener};
-ghost use Rattle.burst.specs.Told.{toldRandomized, toldOpened};
+ghost use Rattle.rules.specs.Burst.{sequence_bytes, randomized, marked, blocks_fit, codeblocks, randomizer, opener};
+ghost use Rattle.burst.specs.Told.{told_randomized, told_opened};
 
 use refusal::{Refusal, Why};
 
@@ -37,7 +37,7 @@ const PERIOD: [u8; 255] = [
 ];
 
 fn period() -> [u8; 255]
-    ensures { result ≡ sequenceBytes 0 255 }
+    ensures { result ≡ sequence_bytes 0 255 }
 {
     PERIOD
 }
@@ -45,7 +45,7 @@ fn period() -> [u8; 255]
 // Randomizes a part of a period, from the sequence's byte `from` on. The table is lent, since a constant that a loop names is stored anew in each turn.
 fn randomize_part(part: &mut [u8], table: &[u8], from: usize)
     requires part_in_bounds { from + length part.old ≤ length table.now }
-    requires table_value { table.now ≡ sequenceBytes 0 (length table.now) }
+    requires table_value { table.now ≡ sequence_bytes 0 (length table.now) }
     ensures { part.new ≡ randomized from part.old }
 {
     let mut k = 0;
@@ -58,7 +58,7 @@ fn randomize_part(part: &mut [u8], table: &[u8], from: usize)
 // Randomizes a whole period: 15 vectors of 16 bytes, then the 15 bytes that are left. The compiler knows every place in the table, so it stores none.
 fn randomize_period(part: &mut [u8], table: &[u8; 255])
     requires part_len { length part.old ≡ 255 }
-    requires table_value { table.now ≡ sequenceBytes 0 255 }
+    requires table_value { table.now ≡ sequence_bytes 0 255 }
     ensures { part.new ≡ randomized 0 part.old }
 {
     randomize_part(&mut part[0..240], table, 0);
@@ -66,8 +66,8 @@ fn randomize_period(part: &mut [u8], table: &[u8; 255])
 }
 
 fn first_sixteen(table: &[u8; 255]) -> [u8; 16]
-    requires { table.now ≡ sequenceBytes 0 255 }
-    ensures { result ≡ sequenceBytes 0 16 }
+    requires { table.now ≡ sequence_bytes 0 255 }
+    ensures { result ≡ sequence_bytes 0 16 }
 {
     let mut short = [0; 16];
     wire::put_part(&mut short, 0, table, 0, 16);
@@ -77,7 +77,7 @@ fn first_sixteen(table: &[u8; 255]) -> [u8; 16]
 // Randomizes three bytes or fewer, as one codeblock leaves them behind its whole periods: with no loop, the compiler knows their places and stores no table.
 fn randomize_few(part: &mut [u8], table: &[u8; 255])
     requires part_len_bound { length part.old ≤ 3 }
-    requires table_value { table.now ≡ sequenceBytes 0 255 }
+    requires table_value { table.now ≡ sequence_bytes 0 255 }
     ensures { part.new ≡ randomized 0 part.old }
 {
     if part.len() < 1 {
@@ -97,7 +97,7 @@ fn randomize_few(part: &mut [u8], table: &[u8; 255])
 // Randomizes at most one period. Beyond three bytes the loop alone knows the places, so a copy of the table is stored, a short one where that does; were the table lent itself, each call would store it.
 fn randomize_rest(part: &mut [u8], table: &[u8; 255])
     requires part_len_bound { length part.old ≤ 255 }
-    requires table_value { table.now ≡ sequenceBytes 0 255 }
+    requires table_value { table.now ≡ sequence_bytes 0 255 }
     ensures { part.new ≡ randomized 0 part.old }
 {
     if part.len() <= 3 {
@@ -129,7 +129,7 @@ fn randomize_all(buf: &mut [u8])
 
 // Randomizes a buffer. Randomizing it again gives its bytes back.
 pub fn randomize(buf: &mut [u8]) -> Randomized
-    ensures { toldRandomized result buf.new ≡ randomizer buf.old }
+    ensures { told_randomized result buf.new ≡ randomizer buf.old }
 {
     if 65536 < buf.len() {
         return Randomized::Refused(Refusal {
@@ -166,7 +166,7 @@ fn blocks_in(n: usize) -> usize
 
 // Whether they are 1 to 80 whole ones.
 fn blocks_fit(n: usize) -> bool
-    ensures { result ≡ blocksFit n }
+    ensures { result ≡ blocks_fit n }
 {
     let blocks = blocks_in(n);
     if blocks < 1 {
@@ -186,7 +186,7 @@ fn refuse_with(why: Why, place: usize) -> Opened
 
 // Opens a burst: its codeblocks are randomized, the sequence running on from one to the next.
 pub fn open_burst(buf: &mut [u8]) -> Opened
-    ensures { toldOpened result buf.new ≡ opener buf.old }
+    ensures { told_opened result buf.new ≡ opener buf.old }
 {
     let n = buf.len();
     let begun = is_marked(buf);

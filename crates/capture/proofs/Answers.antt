@@ -9,41 +9,41 @@ use Rattle.rules.specs.Outcome.{Outcome, good, bad, ROOM}
 use Rattle.rules.specs.Buffer.{fitted}
 use Rattle.rules.specs.Claims.{Careful}
 use Rattle.rules.proofs.Outcomes.{pass, halt, step, stop}
-use Rattle.rules.proofs.Kept.{careful-sets, careful-none}
+use Rattle.rules.proofs.Kept.{careful_sets, careful_none}
 use Rattle.capture.specs.File.{Packet, packets}
-use Rattle.capture.specs.Reading.{Taken, taken_of, taken, recordingOf, roomForTaken, readStored, readCapture}
-use Rattle.capture.specs.Writing.{datagrams, fileOf, roomForFile, writeStored, writeCapture}
-use Rattle.capture.specs.Claims.{readAnswer}
+use Rattle.capture.specs.Reading.{Taken, taken_of, taken, recording_of, room_for_taken, read_stored, read_capture}
+use Rattle.capture.specs.Writing.{datagrams, file_of, room_for_file, write_stored, write_capture}
+use Rattle.capture.specs.Claims.{read_answer}
 
 module _ (file : List ℕ) (port : ℕ) (buffer : List ℕ) (ks : List Packet) (e : packets file ≡ good ks) where
   taken_is : taken file port ≡ good (taken_of port ks)
   unfolding taken
   taken_is = step _ _ e refl
 
-  pub read_is : length (recordingOf (taken_of port ks)) ≤ length buffer → readCapture file port buffer ≡ (readAnswer (taken_of port ks), sets buffer 0 (recordingOf (taken_of port ks)))
-  unfolding readCapture readStored roomForTaken fitted
-  read_is l = ap (readStored buffer) (step _ _ taken_is (step _ _ (pass _ _ _ _ (le-ltb (length buffer) (length (recordingOf (taken_of port ks))) l) refl) refl))
+  pub read_is : length (recording_of (taken_of port ks)) ≤ length buffer → read_capture file port buffer ≡ (read_answer (taken_of port ks), sets buffer 0 (recording_of (taken_of port ks)))
+  unfolding read_capture read_stored room_for_taken fitted
+  read_is l = ap (read_stored buffer) (step _ _ taken_is (step _ _ (pass _ _ _ _ (le-ltb (length buffer) (length (recording_of (taken_of port ks))) l) refl) refl))
 
-  pub read-roomless : length buffer < length (recordingOf (taken_of port ks))
-      → readCapture file port buffer ≡ (record { number = ROOM; place = length (recordingOf (taken_of port ks)); bytes = 0; kept = 0; notForUs = 0; cutShort = 0; badMessage = 0 }, buffer)
-  unfolding readCapture readStored roomForTaken fitted
-  read-roomless l = ap (readStored buffer) (step _ _ taken_is (stop _ _ (halt _ _ _ _ (lt-ltb (length buffer) (length (recordingOf (taken_of port ks))) l))))
+  pub read-roomless : length buffer < length (recording_of (taken_of port ks))
+      → read_capture file port buffer ≡ (record { number = ROOM; place = length (recording_of (taken_of port ks)); bytes = 0; kept = 0; not_for_us = 0; cut_short = 0; bad_message = 0 }, buffer)
+  unfolding read_capture read_stored room_for_taken fitted
+  read-roomless l = ap (read_stored buffer) (step _ _ taken_is (stop _ _ (halt _ _ _ _ (lt-ltb (length buffer) (length (recording_of (taken_of port ks))) l))))
 
 module _ (s : List ℕ) (port : ℕ) (buffer : List ℕ) (ks : List Packet) (e : datagrams s port ≡ good ks) where
-  pub write-is : length (fileOf ks) ≤ length buffer → writeCapture s port buffer ≡ (record { number = 0; place = 0; bytes = length (fileOf ks); messages = length ks }, sets buffer 0 (fileOf ks))
-  unfolding writeCapture writeStored roomForFile fitted
-  write-is l = ap (writeStored buffer) (step _ _ e (step _ _ (pass _ _ _ _ (le-ltb (length buffer) (length (fileOf ks)) l) refl) refl))
+  pub write-is : length (file_of ks) ≤ length buffer → write_capture s port buffer ≡ (record { number = 0; place = 0; bytes = length (file_of ks); messages = length ks }, sets buffer 0 (file_of ks))
+  unfolding write_capture write_stored room_for_file fitted
+  write-is l = ap (write_stored buffer) (step _ _ e (step _ _ (pass _ _ _ _ (le-ltb (length buffer) (length (file_of ks)) l) refl) refl))
 
-  pub write-roomless : length buffer < length (fileOf ks) → writeCapture s port buffer ≡ (record { number = ROOM; place = length (fileOf ks); bytes = 0; messages = 0 }, buffer)
-  unfolding writeCapture writeStored roomForFile fitted
-  write-roomless l = ap (writeStored buffer) (step _ _ e (stop _ _ (halt _ _ _ _ (lt-ltb (length buffer) (length (fileOf ks)) l))))
+  pub write-roomless : length buffer < length (file_of ks) → write_capture s port buffer ≡ (record { number = ROOM; place = length (file_of ks); bytes = 0; messages = 0 }, buffer)
+  unfolding write_capture write_stored room_for_file fitted
+  write-roomless l = ap (write_stored buffer) (step _ _ e (stop _ _ (halt _ _ _ _ (lt-ltb (length buffer) (length (file_of ks)) l))))
 
-pub careful-read : (b : List ℕ) (o : Outcome Taken) → Careful (readStored b o).0.number (readStored b o).0.bytes b (readStored b o).1
-unfolding readStored
-careful-read b (good t) = careful-sets b (recordingOf t)
-careful-read b (bad n p) = careful-none n b
+pub careful-read : (b : List ℕ) (o : Outcome Taken) → Careful (read_stored b o).0.number (read_stored b o).0.bytes b (read_stored b o).1
+unfolding read_stored
+careful-read b (good t) = careful_sets b (recording_of t)
+careful-read b (bad n p) = careful_none n b
 
-pub careful-write : (b : List ℕ) (o : Outcome (List Packet)) → Careful (writeStored b o).0.number (writeStored b o).0.bytes b (writeStored b o).1
-unfolding writeStored
-careful-write b (good ks) = careful-sets b (fileOf ks)
-careful-write b (bad n p) = careful-none n b
+pub careful-write : (b : List ℕ) (o : Outcome (List Packet)) → Careful (write_stored b o).0.number (write_stored b o).0.bytes b (write_stored b o).1
+unfolding write_stored
+careful-write b (good ks) = careful_sets b (file_of ks)
+careful-write b (bad n p) = careful_none n b

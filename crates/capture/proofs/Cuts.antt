@@ -12,14 +12,14 @@ use Rattle.rules.specs.Outcome.{Outcome, good, bad}
 use Rattle.refusal.specs.Numbers.{CAPTURE}
 use Rattle.rules.specs.Bytes.{Bytes, part, join}
 use Rattle.rules.specs.Items.{items, All}
-use Rattle.rules.proofs.Outcomes.{pass, halt, step, stop, passed, bad-inj, good-inj, good≢bad, refused-at, refused-pass, refused-step}
+use Rattle.rules.proofs.Outcomes.{pass, halt, step, stop, passed, bad_inj, good_inj, good≢bad, refused-at, refused_pass, refused-step}
 use Rattle.rules.proofs.Numbers.{word-append, half-append, bytes_drop, bytes_take}
 use Rattle.rules.proofs.Stops as Stops
 use Rattle.rules.proofs.Stops.{Any}
-use Rattle.capture.specs.File.{Order, big, little, halfIn, word_in, headerGood, order_of, Packet, packet, packets, recordIn, fileIn}
+use Rattle.capture.specs.File.{Order, big, little, half_in, word_in, header_good, order_of, Packet, packet, packets, record_in, file_in}
 use Rattle.capture.specs.Claims.{Fits, FileOf, FileRefused, large, header, cut}
 use Rattle.capture.proofs.Orders.{word-behind, records-again, packet-cut, behind-header, file-length, good-order}
-use Rattle.capture.proofs.Only.{all_back, order-good, header-long, file-of}
+use Rattle.capture.proofs.Only.{all_back, order-good, header-long, file_of}
 
 -- ---- records
 
@@ -29,9 +29,9 @@ record Cut (o : Order) (p : ℕ) (s : List ℕ) (n q : ℕ) : Type 0 where
   before : List Packet
   fit : All Fits before
   rest : List ℕ
-  is : join (map (recordIn o) before) ++ rest ≡ s
+  is : join (map (record_in o) before) ++ rest ≡ s
   some : 1 ≤ length rest
-  place : q ≡ p + length (join (map (recordIn o) before))
+  place : q ≡ p + length (join (map (record_in o) before))
   short : length rest < 16 + word_in o rest 8
 
 word-before : (o : Order) (s t : List ℕ) (k : ℕ) → k + 3 < length s → word_in o (s ++ t) k ≡ word_in o s k
@@ -54,12 +54,12 @@ packet-front o p c t h =
     (pass _ _ _ _ (le-ltb (length (c ++ t)) 16 (omega (arith, length-append c t)))
     (pass _ _ _ _ (le-ltb (length (c ++ t)) (16 + word_in o c 8) (omega (arith, length-append c t))) refl))
 
-packet-owns : (o : Order) (p : ℕ) (s : List ℕ) (k : Packet) (n : ℕ) → Any s → 1 ≤ length s → packet o p s ≡ good (k, n) → Stops.Owns (packet o) Any s k n
+packet_owns : (o : Order) (p : ℕ) (s : List ℕ) (k : Packet) (n : ℕ) → Any s → 1 ≤ length s → packet o p s ≡ good (k, n) → Stops.Owns (packet o) Any s k n
 unfolding packet
-packet-owns o p s k n f l e =
+packet_owns o p s k n f l e =
     let (x, g) = passed _ _ _ _ e in
     let (y, g) = passed _ _ _ _ g in
-    let size : 16 + word_in o s 8 ≡ n = ap (λ (r : Packet × ℕ). r.1) (good-inj g) in
+    let size : 16 + word_in o s 8 ≡ n = ap (λ (r : Packet × ℕ). r.1) (good_inj g) in
     let long = ltb-false (length s) (16 + word_in o s 8) y in
     let m : length (take n s) ≡ n = length-take-le n s (omega arith) in
     let w : word_in o s 8 ≡ word_in o (take n s) 8 = ap (λ (t : List ℕ). word_in o t 8) (sym (take-append-drop n s)) ∙ word-before o (take n s) (drop n s) 8 (omega arith) in
@@ -73,12 +73,12 @@ unfolding packet
 cut-here o p s e =
     ⊎_elim
     (λ z. (z.1, z.2, omega (arith, ltb-true (length s) 16 z.0)))
-    (λ e. ⊎_elim (λ z. (z.1, z.2, ltb-true (length s) (16 + word_in o s 8) z.0)) (λ e. absurd (good≢bad (sym e))) (refused-pass _ _ _ _ e))
-    (refused-pass _ _ _ _ e)
+    (λ e. ⊎_elim (λ z. (z.1, z.2, ltb-true (length s) (16 + word_in o s 8) z.0)) (λ e. absurd (good≢bad (sym e))) (refused_pass _ _ _ _ e))
+    (refused_pass _ _ _ _ e)
 
 cut_off : (o : Order) (p : ℕ) (s : List ℕ) {n q : ℕ} → Bytes s → items (packet o) 0 p s ≡ bad n q → Cut o p s n q
 cut_off o p s b e =
-    let w = Stops.stopped (packet o) Any tt (packet-owns o) p s tt e in
+    let w = Stops.stopped (packet o) Any tt (packet_owns o) p s tt e in
     let v = all_back o 0 p (take w.place s) (bytes_take w.place s b) w.passes in
     let h = cut-here o (p + w.place) (drop w.place s) w.refused in
     record {
@@ -94,22 +94,22 @@ cut_off o p s b e =
 
 -- and such records are refused there
 refused-behind : (o : Order) (p : ℕ) (rest : List ℕ) {ks : List Packet} → All Fits ks → 1 ≤ length rest → length rest < 16 + word_in o rest 8
-    → items (packet o) 0 p (join (map (recordIn o) ks) ++ rest) ≡ bad CAPTURE (p + length (join (map (recordIn o) ks)))
+    → items (packet o) 0 p (join (map (record_in o) ks) ++ rest) ≡ bad CAPTURE (p + length (join (map (record_in o) ks)))
 refused-behind o p rest {ks} f l h =
-    let t : List ℕ = join (map (recordIn o) ks) in
-    Stops.refused-behind (packet o) Any tt (packet-owns o) p (t ++ rest) (length t) (omega (arith, length-append t rest)) tt
+    let t : List ℕ = join (map (record_in o) ks) in
+    Stops.refused-behind (packet o) Any tt (packet_owns o) p (t ++ rest) (length t) (omega (arith, length-append t rest)) tt
     (ap (items (packet o) 0 p) (take-append_seam t rest) ∙ records-again o p f)
     (ap (packet o (p + length t)) (drop-append_seam t rest) ∙ packet-cut o (p + length t) rest h)
 
 -- ---- the file header, which is told by its own bytes
 
-half-before : (o : Order) (s t : List ℕ) (k : ℕ) → k + 1 < length s → halfIn o (s ++ t) k ≡ halfIn o s k
-unfolding halfIn
+half-before : (o : Order) (s t : List ℕ) (k : ℕ) → k + 1 < length s → half_in o (s ++ t) k ≡ half_in o s k
+unfolding half_in
 half-before big s t k h = half-append s t k h
 half-before little s t k h = rw (get_or-append s t 0 k (omega arith), get_or-append s t 0 (k + 1) h)
 
-header-before : (o : Order) (s t : List ℕ) → 24 ≤ length s → headerGood o (s ++ t) ≡ headerGood o s
-unfolding headerGood
+header-before : (o : Order) (s t : List ℕ) → 24 ≤ length s → header_good o (s ++ t) ≡ header_good o s
+unfolding header_good
 header-before o s t l =
     rw (
       le-leb 24 (length (s ++ t)) (omega (arith, length-append s t)),
@@ -128,23 +128,23 @@ order-before s t l = ap₂ (λ (a b : Bool). elim a [ true ↦ good big | false 
 
 headless : (file : List ℕ) {n p : ℕ} → length file ≤ 65536 → order_of file ≡ bad n p → FileRefused file n p
 unfolding order_of
-headless file {n} {p} l e = go (headerGood big file) refl (headerGood little file) refl
+headless file {n} {p} l e = go (header_good big file) refl (header_good little file) refl
   where
-    neither : headerGood big file ≡ false → headerGood little file ≡ false → (o : Order) → headerGood o file ≡ false
+    neither : header_good big file ≡ false → header_good little file ≡ false → (o : Order) → header_good o file ≡ false
     neither x y big = x
     neither x y little = y
 
-    go : (a : Bool) → headerGood big file ≡ a → (b : Bool) → headerGood little file ≡ b → FileRefused file n p
+    go : (a : Bool) → header_good big file ≡ a → (b : Bool) → header_good little file ≡ b → FileRefused file n p
     go true x b y = let w : ◌≡◌ {A = Outcome Order} (good big) (bad n p) = rw (x, order_of) at e in absurd (good≢bad (sym w))
     go false x true y = let w : ◌≡◌ {A = Outcome Order} (good little) (bad n p) = rw (x, y, order_of) at e in absurd (good≢bad (sym w))
     go false x false y =
         let w : ◌≡◌ {A = Outcome Order} (bad CAPTURE 0) (bad n p) = rw (x, y, order_of) at e in
-        let (a, b) = bad-inj w in
+        let (a, b) = bad_inj w in
         subst (λ (k : ℕ). FileRefused file k p) a (subst (FileRefused file CAPTURE) b (header l (neither x y)))
 
-module _ (file : List ℕ) (b : Bytes file) (l : length file ≤ 65536) (o : Order) (g : headerGood o file ≡ true) {n p : ℕ} (w : Cut o 24 (drop 24 file) n p) where
+module _ (file : List ℕ) (b : Bytes file) (l : length file ≤ 65536) (o : Order) (g : header_good o file ≡ true) {n p : ℕ} (w : Cut o 24 (drop 24 file) n p) where
   abbrev records : List ℕ
-  records = join (map (recordIn o) w.before)
+  records = join (map (record_in o) w.before)
 
   long : length file ≡ 24 + (length records + length w.rest)
   long = omega (arith, header-long o file g, length-drop 24 file, ap length w.is, length-append records w.rest)
@@ -159,17 +159,17 @@ module _ (file : List ℕ) (b : Bytes file) (l : length file ≤ 65536) (o : Ord
   records-are : records ≡ drop 24 (take p file)
   records-are = sym (ap (drop 24) front ∙ drop_at (take 24 file) records 24 (length-take-le 24 file (omega (arith, long))))
 
-  before-good : headerGood o (take p file) ≡ true
+  before-good : header_good o (take p file) ≡ true
   before-good =
       sym (header-before o (take p file) (drop p file) (omega (arith, length-take-le p file (omega (arith, long, w.place)), w.place)))
-      ∙ ap (headerGood o) (take-append-drop p file) ∙ g
+      ∙ ap (header_good o) (take-append-drop p file) ∙ g
 
   cut-file : FileRefused file n p
-  unfolding file-of
+  unfolding file_of
   cut-file =
       let e : word_in o file (p + 8) ≡ word_in o w.rest 8 = sym (word-behind o p 8 file) ∙ ap (λ (t : List ℕ). word_in o t 8) back in
       subst (λ (k : ℕ). FileRefused file k p) (sym w.number)
-      (cut l (file-of o (take p file) w.before (bytes_take p file b) before-good w.fit records-are) (omega (arith, long, w.place, w.some)) (omega (arith, long, w.place, w.short, e)))
+      (cut l (file_of o (take p file) w.before (bytes_take p file b) before-good w.fit records-are) (omega (arith, long, w.place, w.some)) (omega (arith, long, w.place, w.short, e)))
 
 pub refused_why : (file : List ℕ) (n p : ℕ) → Bytes file → packets file ≡ bad n p → FileRefused file n p
 unfolding packets
@@ -186,15 +186,15 @@ module _ (file : List ℕ) (p : ℕ) (ks : List Packet) (l : length file ≤ 655
   o = w.order
 
   abbrev whole : List ℕ
-  whole = fileIn o w.free ks
+  whole = file_in o w.free ks
 
   split : file ≡ whole ++ drop p file
   split = sym (take-append-drop p file) ∙ ap (λ (t : List ℕ). t ++ drop p file) w.is
 
-  whole_long : 24 + length (join (map (recordIn o) ks)) ≡ p
+  whole_long : 24 + length (join (map (record_in o) ks)) ≡ p
   whole_long = sym (file-length w.free w.twelve ks o) ∙ sym (ap length w.is) ∙ length-take-le p file (omega arith)
 
-  behind : drop 24 file ≡ join (map (recordIn o) ks) ++ drop p file
+  behind : drop 24 file ≡ join (map (record_in o) ks) ++ drop p file
   behind = ap (drop 24) split ∙ drop-append-le 24 whole (drop p file) (omega (arith, file-length w.free w.twelve ks o)) ∙ ap (λ (t : List ℕ). t ++ drop p file) (behind-header w.free w.twelve ks o)
 
   ordered : order_of file ≡ good o
@@ -208,8 +208,8 @@ module _ (file : List ℕ) (p : ℕ) (ks : List Packet) (l : length file ≤ 655
       (ap (items (packet o) 0 24) behind
       ∙ refused-behind o 24 (drop p file) w.fit (omega (arith, length-drop p file)) (omega (arith, length-drop p file, word-behind o p 8 file)) ∙ ap (bad CAPTURE) whole_long))
 
-pub why-refused : (file : List ℕ) {n p : ℕ} → FileRefused file n p → packets file ≡ bad n p
+pub why_refused : (file : List ℕ) {n p : ℕ} → FileRefused file n p → packets file ≡ bad n p
 unfolding packets order_of
-why-refused file (large l) = halt _ _ _ _ (lt-ltb 65536 (length file) l)
-why-refused file (header l h) = pass _ _ _ _ (le-ltb 65536 (length file) l) (stop _ _ (rw (h big, h little, order_of)))
-why-refused file (cut {p = p} {ks = ks} l w i h) = refused-there file p ks l w i h
+why_refused file (large l) = halt _ _ _ _ (lt-ltb 65536 (length file) l)
+why_refused file (header l h) = pass _ _ _ _ (le-ltb 65536 (length file) l) (stop _ _ (rw (h big, h little, order_of)))
+why_refused file (cut {p = p} {ks = ks} l w i h) = refused-there file p ks l w i h

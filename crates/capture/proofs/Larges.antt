@@ -15,11 +15,11 @@ use Rattle.rules.specs.Bytes.{Bytes}
 use Rattle.rules.specs.Items.{items, All, all_nil, all_cons}
 use Rattle.rules.specs.Message.{Message, message, recording}
 use Rattle.rules.specs.Writer.{write}
-use Rattle.rules.proofs.Outcomes.{stepped, fronted, front_of, good-inj, good≢bad, refused-step, refused-front, stop, stop-front, passed, pass, halt, step}
+use Rattle.rules.proofs.Outcomes.{stepped, fronted, front_of_lem, good_inj, good≢bad, refused-step, refused-front, stop, stop_front, passed, pass, halt, step}
 use Rattle.rules.proofs.Numbers.{bytes-tail}
 use Rattle.rules.proofs.Alone.{own}
 use Rattle.capture.specs.File.{Packet}
-use Rattle.capture.specs.Writing.{packetOf, datagram, datagrams}
+use Rattle.capture.specs.Writing.{packet_of, datagram, datagrams}
 use Rattle.capture.specs.Claims.{FirstLarge}
 use Rattle.capture.proofs.Datagrams.{sent, clean-written}
 
@@ -83,7 +83,7 @@ first_next p x s m k g w e h =
       d = suc w.d;
       least = omega arith;
       place = omega (arith, w.place);
-      front = step _ _ (ap (message p) z ∙ o.again p (take (suc w.d - k) (drop k (x ∷ s)))) (front_of _ _ w.front);
+      front = step _ _ (ap (message p) z ∙ o.again p (take (suc w.d - k) (drop k (x ∷ s)))) (front_of_lem _ _ w.front);
     }
 
 first-here : (port p x : ℕ) (s : List ℕ) (r : Message × ℕ) {l ms : List Message} {n q : ℕ} → Bytes (x ∷ s) → message p (x ∷ s) ≡ good r → r.0 ∷ l ≡ ms → datagram port p (x ∷ s) ≡ bad n q → First 0 p (x ∷ s) ms n q
@@ -103,7 +103,7 @@ first port zero p (x ∷ s) b e f =
     (λ (y : datagram port p (x ∷ s) ≡ bad _ _). first-here port p x s r b g e y)
     (λ (y : (t : Packet × ℕ) × (datagram port p (x ∷ s) ≡ good t) × ((t.0 ∷> items (datagram port) (t.1 - 1) (suc p) s) ≡ bad _ _)).
     let w = sent port p (x ∷ s) y.0.0 y.0.1 b y.1 in
-    let v : r ≡ (w.held, y.0.1) = good-inj (sym g ∙ w.reads) in
+    let v : r ≡ (w.held, y.0.1) = good_inj (sym g ∙ w.reads) in
     let a : r.1 ≡ y.0.1 = ap (λ (z : Message × ℕ). z.1) v in
     let c : r.0 ≡ w.held = ap (λ (z : Message × ℕ). z.0) v in
     first_next p x s r.0 r.1 g (first port (r.1 - 1) (suc p) s (bytes-tail b) i (rw a (refused-front _ _ y.2))) e (rw c w.most))
@@ -111,7 +111,7 @@ first port zero p (x ∷ s) b e f =
 
 -- a message whose datagram is sent, or is not
 module _ (port p : ℕ) (s : List ℕ) (b : Bytes s) (m : Message) (k : ℕ) (g : message p s ≡ good (m, k)) where
-  sendable : length (write m) ≤ 65507 → datagram port p s ≡ good (packetOf port m (write m), k)
+  sendable : length (write m) ≤ 65507 → datagram port p s ≡ good (packet_of port m (write m), k)
   unfolding datagram
   sendable h = step _ _ g (step _ _ (clean-written p s b m k g) (pass _ _ _ _ (le-ltb 65507 (length (write m)) h) refl))
 
@@ -127,11 +127,11 @@ each (all_cons h r) = (h, r)
 behind : (port k p : ℕ) (s : List ℕ) (d : ℕ) {before : List Message} (one : Message) (after : List Message) → Bytes s → k ≤ d → items message k p (take d s) ≡ good before → items message k p s ≡ good (before ++ (one ∷ after))
     → All (λ (m : Message). length (write m) ≤ 65507) before → 65507 < length (write one) → items (datagram port) k p s ≡ bad LARGE (p + d)
 unfolding items
-behind port k p [] d {before} one after b h e a f z = absurd (omega (arith, ap length (good-inj a), length-append before (one ∷ after)))
+behind port k p [] d {before} one after b h e a f z = absurd (omega (arith, ap length (good_inj a), length-append before (one ∷ after)))
 behind port (suc k) p (x ∷ s) zero one after b h e a f z = absurd (omega arith)
 behind port (suc k) p (x ∷ s) (suc d) one after b h e a f z = rw (add-suc, ← suc-add) (behind port k (suc p) s d one after (bytes-tail b) (omega arith) e a f z)
 behind port zero p (x ∷ s) zero {before} one after b h e a f z =
-    let none : [] ≡ before = good-inj e in
+    let none : [] ≡ before = good_inj e in
     let (r, g, a) = stepped _ _ a in
     let (j, i, a) = fronted _ _ a in
     let y : r.0 ∷ j ≡ one ∷ after = a ∙ ap (λ (l : List Message). l ++ (one ∷ after)) (sym none) in
@@ -151,7 +151,7 @@ behind port zero p (x ∷ s) (suc d) one after b h e a f z =
     let t : l ≡ j ++ (one ∷ after) = cc in
     let (fits, rest) = each {P = λ (m : Message). length (write m) ≤ 65507} {m = r.0} {l = j} (rw e f) in
     rw (add-suc, ← suc-add) (step _ _ (sendable port p (x ∷ s) b r.0 r.1 read fits)
-    (stop-front _ _ (behind port (r.1 - 1) (suc p) s d one after (bytes-tail b) (omega (arith, o.most, o.least, length-take d s)) i (v ∙ ap good t) rest z)))
+    (stop_front _ _ (behind port (r.1 - 1) (suc p) s d one after (bytes-tail b) (omega (arith, o.most, o.least, length-take d s)) i (v ∙ ap good t) rest z)))
 
 pub refused-first : (s : List ℕ) (port : ℕ) (ms : List Message) (n p : ℕ) → Bytes s → recording s ≡ good ms → datagrams s port ≡ bad n p → (n ≡ LARGE) × FirstLarge s ms p
 unfolding recording datagrams

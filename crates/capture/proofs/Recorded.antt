@@ -10,21 +10,21 @@ use Rattle.rules.specs.Outcome.{good}
 use Rattle.rules.specs.Bytes.{half, join}
 use Rattle.rules.specs.Items.{items, All, all_nil, all_cons}
 use Rattle.rules.specs.Message.{Message, message, recording}
-use Rattle.rules.proofs.Outcomes.{pass, passed, stepped, fronted, good-inj, front_of}
+use Rattle.rules.proofs.Outcomes.{pass, passed, stepped, fronted, good_inj, front_of_lem}
 use Rattle.rules.proofs.Walk.{items-next}
 use Rattle.rules.proofs.Alone.{Own, own}
 use Rattle.capture.specs.File.{Order, word_in, Packet, packet, packets}
-use Rattle.capture.specs.Frame.{ipOf, ipHeader, data_of}
-use Rattle.capture.specs.Reading.{Class, kept, notForUs, cutShort, badMessage, class_of, Taken, counted, taken_of, recordingOf}
+use Rattle.capture.specs.Frame.{ip_of, ip_header, data_of}
+use Rattle.capture.specs.Reading.{Class, kept, not_for_us, cut_short, bad_message, class_of, Taken, counted, taken_of, recording_of}
 use Rattle.capture.proofs.Counting.{Whole, whole-one, kept-is}
 
 -- each kept message is whole
 whole-counted : (c : Class) (t : Taken) → ((d : List ℕ) → c ≡ kept d → Whole d) → All Whole t.messages → All Whole (counted c t).messages
 unfolding counted
 whole-counted (kept d) t w a = all_cons (w d refl) a
-whole-counted notForUs t w a = a
-whole-counted cutShort t w a = a
-whole-counted badMessage t w a = a
+whole-counted not_for_us t w a = a
+whole-counted cut_short t w a = a
+whole-counted bad_message t w a = a
 
 whole-taken : (port : ℕ) (ks : List Packet) → All Whole (taken_of port ks).messages
 unfolding taken_of
@@ -42,7 +42,7 @@ read_all (all_cons {a = c} {l = cs} w a) p =
     let least = o.least in (
       w.held ∷ ms,
       items-next message p (c ++ join cs) w.held (length c) (omega (arith, length-append c (join cs))) (omega arith) g
-          ∙ front_of _ _ (rw drop-append_seam e),
+          ∙ front_of_lem _ _ (rw drop-append_seam e),
       ap suc n,
     )
 
@@ -57,7 +57,7 @@ packet-size o p s k n e =
     let (a, e) = passed _ _ _ _ e in
     let (b, e) = passed _ _ _ _ e in
     let l = ltb-false _ _ b in
-    subst (λ (x : Packet × ℕ). (x.1 ≡ 16 + length x.0.bytes) × (x.1 ≤ length s)) (good-inj e)
+    subst (λ (x : Packet × ℕ). (x.1 ≡ 16 + length x.0.bytes) × (x.1 ≤ length s)) (good_inj e)
     (omega (arith, l, length-take (16 + word_in o s 8 - 16) (drop 16 s), length-drop 16 s), l)
 
 bulk-fits : (o : Order) (k p : ℕ) (s : List ℕ) {ks : List Packet} → items (packet o) k p s ≡ good ks → bulk ks ≤ length s - k
@@ -72,26 +72,26 @@ bulk-fits o zero p (x ∷ s) e =
     rw (← m) (omega (arith, w, a, b))
 
 -- what is kept of a packet is a part of it
-data-fits : (ip : List ℕ) → length (data_of ip) ≤ length ip
+data_fits : (ip : List ℕ) → length (data_of ip) ≤ length ip
 unfolding data_of
-data-fits ip =
-    let a = ipHeader ip + 8 in
-    omega (arith, length-take (ipHeader ip + half ip (ipHeader ip + 4) - a) (drop a ip), length-drop a ip)
+data_fits ip =
+    let a = ip_header ip + 8 in
+    omega (arith, length-take (ip_header ip + half ip (ip_header ip + 4) - a) (drop a ip), length-drop a ip)
 
-counted-length : (k : Packet) (c : Class) (t : Taken) → ((d : List ℕ) → c ≡ kept d → length d ≤ length k.bytes) → length (recordingOf (counted c t)) ≤ length k.bytes + length (recordingOf t)
-unfolding counted recordingOf
+counted-length : (k : Packet) (c : Class) (t : Taken) → ((d : List ℕ) → c ≡ kept d → length d ≤ length k.bytes) → length (recording_of (counted c t)) ≤ length k.bytes + length (recording_of t)
+unfolding counted recording_of
 counted-length k (kept d) t h = omega (arith, h d refl, length-append d (join t.messages))
-counted-length k notForUs t h = omega arith
-counted-length k cutShort t h = omega arith
-counted-length k badMessage t h = omega arith
+counted-length k not_for_us t h = omega arith
+counted-length k cut_short t h = omega arith
+counted-length k bad_message t h = omega arith
 
 pub kept-length : (port : ℕ) (k : Packet) (d : List ℕ) → class_of port k ≡ kept d → length d ≤ length k.bytes
 kept-length port k d e =
     let w = kept-is port k d e in
-    rw (← w.content) (omega (arith, data-fits (ipOf k.bytes), length-drop 14 k.bytes))
+    rw (← w.content) (omega (arith, data_fits (ip_of k.bytes), length-drop 14 k.bytes))
 
-taken-length : (port : ℕ) (ks : List Packet) → length (recordingOf (taken_of port ks)) ≤ bulk ks
-unfolding taken_of recordingOf
+taken-length : (port : ℕ) (ks : List Packet) → length (recording_of (taken_of port ks)) ≤ bulk ks
+unfolding taken_of recording_of
 taken-length port [] = omega arith
 taken-length port (k ∷ ks) = omega (arith, counted-length k (class_of port k) (taken_of port ks) (kept-length port k), taken-length port ks)
 
@@ -108,14 +108,14 @@ opened file ks e =
     let (o, g, e) = stepped _ _ e in
     record { order = o; small = ltb-false _ _ l; reads = e }
 
-pub not-longer : (file : List ℕ) (port : ℕ) (ks : List Packet) → packets file ≡ good ks → length (recordingOf (taken_of port ks)) ≤ length file
-not-longer file port ks e =
+pub not_longer : (file : List ℕ) (port : ℕ) (ks : List Packet) → packets file ≡ good ks → length (recording_of (taken_of port ks)) ≤ length file
+not_longer file port ks e =
     let w = opened file ks e in
     omega (arith, taken-length port ks, bulk-fits w.order 0 24 (drop 24 file) w.reads, length-drop 24 file)
 
-pub recording-valid : (file : List ℕ) (port : ℕ) (ks : List Packet) → packets file ≡ good ks
-    → (ms : List Message) × (recording (recordingOf (taken_of port ks)) ≡ good ms) × (length ms ≡ length (taken_of port ks).messages)
-unfolding recording recordingOf
-recording-valid file port ks e =
+pub recording_valid : (file : List ℕ) (port : ℕ) (ks : List Packet) → packets file ≡ good ks
+    → (ms : List Message) × (recording (recording_of (taken_of port ks)) ≡ good ms) × (length ms ≡ length (taken_of port ks).messages)
+unfolding recording recording_of
+recording_valid file port ks e =
     let (ms, r, n) = read_all (whole-taken port ks) 0 in
-    (ms, pass _ _ _ _ (le-ltb 65536 (length (recordingOf (taken_of port ks))) (omega (arith, not-longer file port ks e, (opened file ks e).small))) r, n)
+    (ms, pass _ _ _ _ (le-ltb 65536 (length (recording_of (taken_of port ks))) (omega (arith, not_longer file port ks e, (opened file ks e).small))) r, n)

@@ -13,8 +13,8 @@ use Rattle.rules.specs.Bytes.{part, join}
 use Rattle.rules.proofs.Alone.{part-append}
 use Rattle.rules.proofs.Loops.{sets-sets}
 use Rattle.capture.specs.File.{Packet}
-use Rattle.capture.specs.Reading.{Class, kept, notForUs, cutShort, badMessage, class_of, counted, taken_of}
-use Rattle.capture.specs.Told.{toldClass, Placed, withClass, Added, noted, Spot, Spots, noting, More, Stored}
+use Rattle.capture.specs.Reading.{Class, kept, not_for_us, cut_short, bad_message, class_of, counted, taken_of}
+use Rattle.capture.specs.Told.{told_class, Placed, with_class, Added, noted, Spot, Spots, noting, More, Stored}
 use Rattle.capture.specs.declared.Packed.{Packed}
 use Rattle.capture.specs.declared.Packed.TheVariants as packed
 use Rattle.capture.specs.declared.Counts.{Counts}
@@ -25,12 +25,12 @@ use Rattle.capture.proofs.Counting.{in_order}
 placed-long : (frame : List ℕ) (from to : ℕ) → Placed (length frame) (packed.Kept from to) → length (part from to frame) ≡ to - from
 placed-long frame from to (a, b, l) = length-take-le (to - from) (drop from frame) (omega (arith, length-drop from frame))
 
-pub kept-added : (t : Counts) (from to : ℕ)
+pub kept_added : (t : Counts) (from to : ℕ)
     → Added t (packed.Kept from to) (record { bytes = t.bytes + (to - from); kept = t.kept + 1; not_for_us = t.not_for_us; cut_short = t.cut_short; bad_message = t.bad_message })
-kept-added t from to = record { right = λ frame p. rw (placed-long frame from to p) }
+kept_added t from to = record { right = λ frame p. rw (placed-long frame from to p) }
 
-pub added-as : (t r : Counts) (p q : Packed) → p ≡ q → Added t q r → Added t p r
-added-as t r p q e a = rw e a
+pub added_as : (t r : Counts) (p q : Packed) → p ≡ q → Added t q r → Added t p r
+added_as t r p q e a = rw e a
 
 pub placed-more : (m n : ℕ) (p : Packed) → m ≤ n → Placed m p → Placed n p
 placed-more m n (packed.Kept from to) h (a, b, l) = (a, b, omega (arith, h, l))
@@ -38,13 +38,13 @@ placed-more m n packed.NotForUs h p = p
 placed-more m n packed.CutShort h p = p
 placed-more m n packed.BadMessage h p = p
 
-pub more_of : (t r : Counts) (before after : List ℕ) (start : ℕ) (frame : List ℕ) (p : Packed) (c : Class) → (toldClass frame p ≡ c) × Placed (length frame) p → after ≡ noting before t.kept start p → Added t p r
+pub more_of : (t r : Counts) (before after : List ℕ) (start : ℕ) (frame : List ℕ) (p : Packed) (c : Class) → (told_class frame p ≡ c) × Placed (length frame) p → after ≡ noting before t.kept start p → Added t p r
     → More t r before after start frame c
-more_of t r before after start frame p c (e, l) w a = record { packed = p; told = e; placed = l; counts = a.right frame l ∙ ap (withClass t) e; spots = w }
+more_of t r before after start frame p c (e, l) w a = record { packed = p; told = e; placed = l; counts = a.right frame l ∙ ap (with_class t) e; spots = w }
 
 -- the record of a message that is kept has 82 bytes at least
 small_by : (t : Counts) (frame : List ℕ) (p : Packed) → Placed (length frame) p
-    → ((withClass t (toldClass frame p)).kept * 82 ≤ t.kept * 82 + (16 + length frame)) × ((withClass t (toldClass frame p)).bytes ≤ t.bytes + length frame)
+    → ((with_class t (told_class frame p)).kept * 82 ≤ t.kept * 82 + (16 + length frame)) × ((with_class t (told_class frame p)).bytes ≤ t.bytes + length frame)
 small_by t frame (packed.Kept from to) (a, b, l) = (omega arith, omega (arith, placed-long frame from to (a, b, l)))
 small_by t frame packed.NotForUs l = (omega arith, omega arith)
 small_by t frame packed.CutShort l = (omega arith, omega arith)
@@ -64,20 +64,20 @@ pub more-long : (t r : Counts) (before after : List ℕ) (start : ℕ) (frame : 
 more-long t r before after start frame c m = ap length m.spots ∙ long-by before t.kept start m.packed
 
 -- the message of a packet, if it is kept
-abbrev pub newOf : Class → List (List ℕ)
-newOf (kept c) = c ∷ []
-newOf notForUs = []
-newOf cutShort = []
-newOf badMessage = []
+abbrev pub new_of : Class → List (List ℕ)
+new_of (kept c) = c ∷ []
+new_of not_for_us = []
+new_of cut_short = []
+new_of bad_message = []
 
-new_is : (c : Class) → (counted c (record { messages = []; notForUs = 0; cutShort = 0; badMessage = 0 })).messages ≡ newOf c
+new_is : (c : Class) → (counted c (record { messages = []; not_for_us = 0; cut_short = 0; bad_message = 0 })).messages ≡ new_of c
 unfolding counted
 new_is (kept c) = refl
-new_is notForUs = refl
-new_is cutShort = refl
-new_is badMessage = refl
+new_is not_for_us = refl
+new_is cut_short = refl
+new_is bad_message = refl
 
-pub taken-last : (port : ℕ) (done : List Packet) (k : Packet) → (taken_of port (done ++ (k ∷ []))).messages ≡ (taken_of port done).messages ++ newOf (class_of port k)
+pub taken-last : (port : ℕ) (done : List Packet) (k : Packet) → (taken_of port (done ++ (k ∷ []))).messages ≡ (taken_of port done).messages ++ new_of (class_of port k)
 unfolding taken_of
 taken-last port done k = rw (in_order port done (k ∷ [])) (ap (λ (x : List (List ℕ)). (taken_of port done).messages ++ x) (new_is (class_of port k)))
 
@@ -111,13 +111,13 @@ spots-last file before cs d x n l w s = record { few = omega (arith, l, length-a
         rw (q, get_or-set_same before (length cs) x 0 (omega (arith, l, n)), get_or-append_seam cs d [] []) w
 
 module _ (file before : List ℕ) (cs : List (List ℕ)) (k start end : ℕ) (s : start ≤ end) (h : end ≤ length file) (l : length file ≤ 65536) (n : length cs ≡ k) (few : k < 800) (long : length before ≡ 800) (w : Spots file before cs) where
-  spots-by : (p : Packed) → Placed (length (part start end file)) p → Spots file (noting before k start p) (cs ++ newOf (toldClass (part start end file) p))
+  spots-by : (p : Packed) → Placed (length (part start end file)) p → Spots file (noting before k start p) (cs ++ new_of (told_class (part start end file) p))
   spots-by (packed.Kept from to) f = rw (← n) (spots-last file before cs (part from to (part start end file)) ((start + from) * 65536 + (to - from)) long (omega (arith, n, few)) (spot_of file start end from to s h l f) w)
   spots-by packed.NotForUs f = rw append-nil w
   spots-by packed.CutShort f = rw append-nil w
   spots-by packed.BadMessage f = rw append-nil w
 
-  pub spots-more : (t r : Counts) (after : List ℕ) (c : Class) → t.kept ≡ k → More t r before after start (part start end file) c → Spots file after (cs ++ newOf c)
+  pub spots-more : (t r : Counts) (after : List ℕ) (c : Class) → t.kept ≡ k → More t r before after start (part start end file) c → Spots file after (cs ++ new_of c)
   spots-more t r after c e m = rw (m.spots, e, ← m.told) (spots-by m.packed m.placed)
 
 -- ---- stored
@@ -133,15 +133,15 @@ pub record Storing (file spots : List ℕ) (n : ℕ) (before after : List ℕ) (
   pub right : (cs : List (List ℕ)) → length cs ≡ n → Spots file spots cs → (to ≡ length (join (take i cs))) × (after ≡ sets before 0 (join (take i cs)))
 
 module _ (file spots : List ℕ) (n : ℕ) (before : List ℕ) where
-  pub storing-start : Storing file spots n before before 0 0
-  storing-start = record { low = omega arith; same = refl; right = λ cs l s. (refl, refl) }
+  pub storing_start : Storing file spots n before before 0 0
+  storing_start = record { low = omega arith; same = refl; right = λ cs l s. (refl, refl) }
 
   module _ (after : List ℕ) (to i : ℕ) (inv : Storing file spots n before after to i) where
-    pub storing-end : n ≤ i → Stored file spots n before after
-    storing-end h = record { right = λ cs l s. (inv.right cs l s).1 ∙ ap (λ (x : List (List ℕ)). sets before 0 (join x)) (take_all i cs (omega (arith, l))) }
+    pub storing_end : n ≤ i → Stored file spots n before after
+    storing_end h = record { right = λ cs l s. (inv.right cs l s).1 ∙ ap (λ (x : List (List ℕ)). sets before 0 (join x)) (take_all i cs (omega (arith, l))) }
 
-    pub storing-next : i < n → (after' : List ℕ) (to' : ℕ) → (after' ≡ sets after to (noted file (get_or spots i 0))) × (to' ≡ to + get_or spots i 0 % 65536) → Storing file spots n before after' to' (i + 1)
-    storing-next h after' to' (w, e) = record {
+    pub storing_next : i < n → (after' : List ℕ) (to' : ℕ) → (after' ≡ sets after to (noted file (get_or spots i 0))) × (to' ≡ to + get_or spots i 0 % 65536) → Storing file spots n before after' to' (i + 1)
+    storing_next h after' to' (w, e) = record {
       low = omega (arith, e, inv.low);
       same = ap length w ∙ length-sets after to (noted file (get_or spots i 0)) ∙ inv.same;
       right = λ cs l s.

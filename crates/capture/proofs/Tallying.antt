@@ -13,16 +13,16 @@ use Rattle.rules.specs.Outcome.{good, bad}
 use Rattle.refusal.specs.Numbers.{CAPTURE}
 use Rattle.rules.specs.Bytes.{part, join}
 use Rattle.rules.specs.Items.{items}
-use Rattle.rules.proofs.Outcomes.{pass, halt, step, stop, both, good-inj, good≢bad}
+use Rattle.rules.proofs.Outcomes.{pass, halt, step, stop, both, good_inj, good≢bad}
 use Rattle.rules.proofs.Loops.{rest, Passing, passing-start, passing-next, passing-end, passing-bad}
 use Rattle.capture.specs.File.{Order, word_in, Packet, packet}
-use Rattle.capture.specs.Reading.{Class, kept, notForUs, cutShort, badMessage, class_of, Taken, counted, taken_of, recordingOf}
+use Rattle.capture.specs.Reading.{Class, kept, not_for_us, cut_short, bad_message, class_of, Taken, counted, taken_of, recording_of}
 use Rattle.capture.specs.Claims.{joined}
-use Rattle.capture.specs.Told.{slotOf, packetBy, countsOf, withClass, Low, countedIn, Spots, More, SpotsIn}
+use Rattle.capture.specs.Told.{slot_of, packet_by, counts_of, with_class, Low, counted_in, Spots, More, SpotsIn}
 use Rattle.capture.specs.declared.Slot.TheVariants.{Record, Cut}
 use Rattle.capture.specs.declared.Counts.{Counts}
-use Rattle.capture.proofs.Counting.{adds-up, in_order}
-use Rattle.capture.proofs.Spotting.{newOf, taken-last, more-small, more-long, spots-more}
+use Rattle.capture.proofs.Counting.{adds_up, in_order}
+use Rattle.capture.proofs.Spotting.{new_of, taken-last, more-small, more-long, spots-more}
 
 -- ---- one packet more
 
@@ -30,42 +30,42 @@ join-append : (cs ds : List (List ℕ)) → length (join (cs ++ ds)) ≡ length 
 join-append [] ds = omega arith
 join-append (c ∷ cs) ds = omega (arith, length-append c (join (cs ++ ds)), length-append c (join cs), join-append cs ds)
 
-with-joined : (u : Taken) (c : Class) → countsOf (joined u (counted c (record { messages = []; notForUs = 0; cutShort = 0; badMessage = 0 }))) ≡ withClass (countsOf u) c
-unfolding counted recordingOf
+with-joined : (u : Taken) (c : Class) → counts_of (joined u (counted c (record { messages = []; not_for_us = 0; cut_short = 0; bad_message = 0 }))) ≡ with_class (counts_of u) c
+unfolding counted recording_of
 with-joined u (kept c) =
     let n : length (c ++ []) ≡ length c = ap length (append-nil c) in
     rw (join-append u.messages (c ∷ []), n, length-append u.messages (c ∷ []), add-zero, add-zero, add-zero)
-with-joined u notForUs = rw (append-nil, add-zero, add-zero)
-with-joined u cutShort = rw (append-nil, add-zero, add-zero)
-with-joined u badMessage = rw (append-nil, add-zero, add-zero)
+with-joined u not_for_us = rw (append-nil, add-zero, add-zero)
+with-joined u cut_short = rw (append-nil, add-zero, add-zero)
+with-joined u bad_message = rw (append-nil, add-zero, add-zero)
 
-with-last : (port : ℕ) (done : List Packet) (k : Packet) → countsOf (taken_of port (done ++ (k ∷ []))) ≡ withClass (countsOf (taken_of port done)) (class_of port k)
+with-last : (port : ℕ) (done : List Packet) (k : Packet) → counts_of (taken_of port (done ++ (k ∷ []))) ≡ with_class (counts_of (taken_of port done)) (class_of port k)
 unfolding taken_of
-with-last port done k = ap countsOf (in_order port done (k ∷ [])) ∙ with-joined (taken_of port done) (class_of port k)
+with-last port done k = ap counts_of (in_order port done (k ∷ [])) ∙ with-joined (taken_of port done) (class_of port k)
 
 -- the class does not depend on the time
-same_class : (port : ℕ) (frame : List ℕ) (original a b : ℕ) → class_of port (packetBy frame original) ≡ class_of port (record { seconds = a; micros = b; original = original; bytes = frame })
+same_class : (port : ℕ) (frame : List ℕ) (original a b : ℕ) → class_of port (packet_by frame original) ≡ class_of port (record { seconds = a; micros = b; original = original; bytes = frame })
 unfolding class_of
 same_class port frame original a b = refl
 
 -- ---- a record
 
-abbrev pub packetAt : Order → List ℕ → ℕ → ℕ → Packet
-packetAt o s size original = record { seconds = word_in o s 0; micros = word_in o s 4; original = original; bytes = part 16 size s }
+abbrev pub packet_at : Order → List ℕ → ℕ → ℕ → Packet
+packet_at o s size original = record { seconds = word_in o s 0; micros = word_in o s 4; original = original; bytes = part 16 size s }
 
 pub record Slotted (o : Order) (s : List ℕ) (size original : ℕ) : Type 0 where
   pub least : 16 ≤ size
   pub most : size ≤ length s
-  pub reads : (p : ℕ) → packet o p s ≡ good (packetAt o s size original, size)
+  pub reads : (p : ℕ) → packet o p s ≡ good (packet_at o s size original, size)
 
-pub slotted : (o : Order) (s : List ℕ) (size original : ℕ) → Record size original ≡ slotOf o s → Slotted o s size original
-unfolding slotOf packet
+pub slotted : (o : Order) (s : List ℕ) (size original : ℕ) → Record size original ≡ slot_of o s → Slotted o s size original
+unfolding slot_of packet
 slotted o s size original e = go (leb 16 (length s) && leb (16 + word_in o s 8) (length s)) refl
   where
     go : (b : Bool) → (leb 16 (length s) && leb (16 + word_in o s 8) (length s)) ≡ b → Slotted o s size original
-    go false z = let w : Record size original ≡ Cut = rw (z, slotOf) at e in let n : ◌≡◌ {A = ℕ} 0 1 = cc in absurd (omega arith)
+    go false z = let w : Record size original ≡ Cut = rw (z, slot_of) at e in let n : ◌≡◌ {A = ℕ} 0 1 = cc in absurd (omega arith)
     go true z =
-        let w : Record size original ≡ Record (16 + word_in o s 8) (word_in o s 12) = rw (z, slotOf) at e in
+        let w : Record size original ≡ Record (16 + word_in o s 8) (word_in o s 12) = rw (z, slot_of) at e in
         let a : size ≡ 16 + word_in o s 8 = cc in
         let b : original ≡ word_in o s 12 = cc in
         let (x, y) = both (leb 16 (length s)) (leb (16 + word_in o s 8) (length s)) z in
@@ -77,14 +77,14 @@ slotted o s size original e = go (leb 16 (length s) && leb (16 + word_in o s 8) 
           reads = λ p. rw (a, b) (pass _ _ _ _ (le-ltb (length s) 16 l) (pass _ _ _ _ (le-ltb (length s) (16 + word_in o s 8) m) refl));
         }
 
-slot-cut : (o : Order) (s : List ℕ) (p : ℕ) → Cut ≡ slotOf o s → packet o p s ≡ bad CAPTURE p
-unfolding slotOf packet
-slot-cut o s p e = go (leb 16 (length s)) refl (leb (16 + word_in o s 8) (length s)) refl
+slot_cut : (o : Order) (s : List ℕ) (p : ℕ) → Cut ≡ slot_of o s → packet o p s ≡ bad CAPTURE p
+unfolding slot_of packet
+slot_cut o s p e = go (leb 16 (length s)) refl (leb (16 + word_in o s 8) (length s)) refl
   where
     go : (a : Bool) → leb 16 (length s) ≡ a → (b : Bool) → leb (16 + word_in o s 8) (length s) ≡ b → packet o p s ≡ bad CAPTURE p
     go false x b y = halt _ _ _ _ (lt-ltb (length s) 16 (leb-false 16 (length s) x))
     go true x false y = pass _ _ _ _ (le-ltb (length s) 16 (leb-true 16 (length s) x)) (halt _ _ _ _ (lt-ltb (length s) (16 + word_in o s 8) (leb-false (16 + word_in o s 8) (length s) y)))
-    go true x true y = let w : Cut ≡ Record (16 + word_in o s 8) (word_in o s 12) = rw (x, y, slotOf) at e in let n : ◌≡◌ {A = ℕ} 0 1 = cc in absurd (omega arith)
+    go true x true y = let w : Cut ≡ Record (16 + word_in o s 8) (word_in o s 12) = rw (x, y, slot_of) at e in let n : ◌≡◌ {A = ℕ} 0 1 = cc in absurd (omega arith)
 
 -- ---- the records before place `at`
 
@@ -110,50 +110,50 @@ module _ (o : Order) (file : List ℕ) where
       left : walk.i < length (drop 24 file)
       left = omega (arith, length-drop 24 file, walk.place)
 
-      pub walked-cut : Cut ≡ slotOf o (take (length file - at) (drop at file)) → items (packet o) 0 24 (drop 24 file) ≡ bad CAPTURE at
-      walked-cut e =
+      pub walked_cut : Cut ≡ slot_of o (take (length file - at) (drop at file)) → items (packet o) 0 24 (drop 24 file) ≡ bad CAPTURE at
+      walked_cut e =
           passing-bad (packet o) 24 (drop 24 file) done walk.i at walk.passing left
-          (rw behind (slot-cut o (drop at file) at (e ∙ ap (slotOf o) (rest file at))))
+          (rw behind (slot_cut o (drop at file) at (e ∙ ap (slot_of o) (rest file at))))
 
-      module _ (size original : ℕ) (e : Record size original ≡ slotOf o (take (length file - at) (drop at file))) where
-        pub slot-here : Slotted o (drop at file) size original
-        slot-here = slotted o (drop at file) size original (e ∙ ap (slotOf o) (rest file at))
+      module _ (size original : ℕ) (e : Record size original ≡ slot_of o (take (length file - at) (drop at file))) where
+        pub slot_here : Slotted o (drop at file) size original
+        slot_here = slotted o (drop at file) size original (e ∙ ap (slot_of o) (rest file at))
 
-        pub walked_next : Walked o file (done ++ (packetAt o (drop at file) size original ∷ [])) (at + size)
+        pub walked_next : Walked o file (done ++ (packet_at o (drop at file) size original ∷ [])) (at + size)
         walked_next =
-            let k = packetAt o (drop at file) size original in
-            let least = slot-here.least in
-            let most = slot-here.most in
+            let k = packet_at o (drop at file) size original in
+            let least = slot_here.least in
+            let most = slot_here.most in
             record {
               i = walk.i + size;
               place = omega (arith, walk.place);
               inside = omega (arith, length-drop at file);
-              passing = passing-next (packet o) 24 (drop 24 file) done walk.i at k size walk.passing left (omega arith) (rw behind (slot-here.reads at));
+              passing = passing-next (packet o) 24 (drop 24 file) done walk.i at k size walk.passing left (omega arith) (rw behind (slot_here.reads at));
               few = omega (arith, walk.few, length-append done (k ∷ []));
             }
 
         frame_is : part (at + 16) (at + size) file ≡ part 16 size (drop at file)
         frame_is = let n : at + size - (at + 16) ≡ size - 16 = omega arith in rw (n, drop-drop)
 
-        pub class-here : (port : ℕ) → class_of port (packetBy (part (at + 16) (at + size) file) original) ≡ class_of port (packetAt o (drop at file) size original)
-        class-here port =
-            ap (λ (f : List ℕ). class_of port (packetBy f original)) frame_is ∙ same_class port (part 16 size (drop at file)) original (word_in o (drop at file) 0) (word_in o (drop at file) 4)
+        pub class_here : (port : ℕ) → class_of port (packet_by (part (at + 16) (at + size) file) original) ≡ class_of port (packet_at o (drop at file) size original)
+        class_here port =
+            ap (λ (f : List ℕ). class_of port (packet_by f original)) frame_is ∙ same_class port (part 16 size (drop at file)) original (word_in o (drop at file) 0) (word_in o (drop at file) 4)
 
 -- ---- counted
 
 pub record Counting (o : Order) (port : ℕ) (file : List ℕ) (t : Counts) (spots : List ℕ) (at : ℕ) : Type 0 where
   pub done : List Packet
   pub walk : Walked o file done at
-  pub counts : t ≡ countsOf (taken_of port done)
+  pub counts : t ≡ counts_of (taken_of port done)
   pub small : t.bytes ≤ at
   pub few : 24 + t.kept * 82 ≤ at
   pub long : length spots ≡ 800
   pub spotted : Spots file spots (taken_of port done).messages
 
 module _ (o : Order) (port : ℕ) (file : List ℕ) where
-  pub counting-start : (spots : List ℕ) → length spots ≡ 800 → 24 ≤ length file → Counting o port file (record { bytes = 0; kept = 0; not_for_us = 0; cut_short = 0; bad_message = 0 }) spots 24
-  unfolding taken_of recordingOf
-  counting-start spots n l = record { done = []; walk = walked_start o file l; counts = refl; small = omega arith; few = omega arith; long = n; spotted = record { few = omega arith; each = λ i l. absurd (omega arith) } }
+  pub counting_start : (spots : List ℕ) → length spots ≡ 800 → 24 ≤ length file → Counting o port file (record { bytes = 0; kept = 0; not_for_us = 0; cut_short = 0; bad_message = 0 }) spots 24
+  unfolding taken_of recording_of
+  counting_start spots n l = record { done = []; walk = walked_start o file l; counts = refl; small = omega arith; few = omega arith; long = n; spotted = record { few = omega arith; each = λ i l. absurd (omega arith) } }
 
   module _ (t : Counts) (spots : List ℕ) (at : ℕ) (inv : Counting o port file t spots at) where
     pub low : length file ≤ 65536 → Low t × (t.kept < 800)
@@ -162,7 +162,7 @@ module _ (o : Order) (port : ℕ) (file : List ℕ) where
         let f = inv.walk.few in
         let s = inv.small in
         let k = inv.few in
-        let a = adds-up port inv.done in
+        let a = adds_up port inv.done in
         let e = inv.counts in
         let b : t.kept < 800 = omega arith in (
           record {
@@ -175,27 +175,27 @@ module _ (o : Order) (port : ℕ) (file : List ℕ) where
           b,
         )
 
-    pub counting-end : length file ≤ at → (good t ≡ countedIn o file port) × SpotsIn o file port spots
-    unfolding countedIn
-    counting-end l =
+    pub counting_end : length file ≤ at → (good t ≡ counted_in o file port) × SpotsIn o file port spots
+    unfolding counted_in
+    counting_end l =
         let e = walked_end o file inv.done at inv.walk l in
-        (sym (step _ _ e (ap good (sym inv.counts))), record { right = λ ks g. let q : inv.done ≡ ks = good-inj (sym e ∙ g) in rw (← q) inv.spotted })
+        (sym (step _ _ e (ap good (sym inv.counts))), record { right = λ ks g. let q : inv.done ≡ ks = good_inj (sym e ∙ g) in rw (← q) inv.spotted })
 
     module _ (h : at < length file) where
-      pub counting-cut : Cut ≡ slotOf o (take (length file - at) (drop at file)) → (bad CAPTURE at ≡ countedIn o file port) × SpotsIn o file port spots
-      unfolding countedIn
-      counting-cut e =
-          let c = walked-cut o file inv.done at inv.walk h e in
+      pub counting_cut : Cut ≡ slot_of o (take (length file - at) (drop at file)) → (bad CAPTURE at ≡ counted_in o file port) × SpotsIn o file port spots
+      unfolding counted_in
+      counting_cut e =
+          let c = walked_cut o file inv.done at inv.walk h e in
           (sym (stop _ _ c), record { right = λ ks g. absurd (good≢bad (sym c ∙ g)) })
 
-      module _ (size original : ℕ) (e : Record size original ≡ slotOf o (take (length file - at) (drop at file))) where
-        pub counting-next : (t' : Counts) (spots' : List ℕ) → length file ≤ 65536 → More t t' spots spots' (at + 16) (part (at + 16) (at + size) file) (class_of port (packetBy (part (at + 16) (at + size) file) original))
+      module _ (size original : ℕ) (e : Record size original ≡ slot_of o (take (length file - at) (drop at file))) where
+        pub counting_next : (t' : Counts) (spots' : List ℕ) → length file ≤ 65536 → More t t' spots spots' (at + 16) (part (at + 16) (at + size) file) (class_of port (packet_by (part (at + 16) (at + size) file) original))
             → Counting o port file t' spots' (at + size)
-        counting-next t' spots' l m =
-            let k = packetAt o (drop at file) size original in
+        counting_next t' spots' l m =
+            let k = packet_at o (drop at file) size original in
             let messages = (taken_of port inv.done).messages in
-            let c = class-here o file inv.done at inv.walk h size original e port in
-            let slot = slot-here o file inv.done at inv.walk h size original e in
+            let c = class_here o file inv.done at inv.walk h size original e port in
+            let slot = slot_here o file inv.done at inv.walk h size original e in
             let end : at + size ≤ length file = omega (arith, slot.most, length-drop at file) in
             let short : length (part (at + 16) (at + size) file) ≤ size - 16 = omega (arith, length-take (at + size - (at + 16)) (drop (at + 16) file)) in
             let (y, z) = more-small _ _ _ _ _ _ _ m in
@@ -204,11 +204,11 @@ module _ (o : Order) (port : ℕ) (file : List ℕ) where
             record {
               done = inv.done ++ (k ∷ []);
               walk = walked_next o file inv.done at inv.walk h size original e;
-              counts = m.counts ∙ ap (withClass t) c ∙ ap (λ (x : Counts). withClass x (class_of port k)) inv.counts ∙ sym (with-last port inv.done k);
+              counts = m.counts ∙ ap (with_class t) c ∙ ap (λ (x : Counts). with_class x (class_of port k)) inv.counts ∙ sym (with-last port inv.done k);
               small = omega (arith, z, short, inv.small);
               few = omega (arith, y, short, inv.few, slot.least);
               long = more-long _ _ _ _ _ _ _ m ∙ inv.long;
               spotted =
-                  subst (Spots file spots') (ap (λ (x : Class). messages ++ newOf x) c ∙ sym (taken-last port inv.done k))
+                  subst (Spots file spots') (ap (λ (x : Class). messages ++ new_of x) c ∙ sym (taken-last port inv.done k))
                   (spots-more file spots messages t.kept (at + 16) (at + size) (omega (arith, slot.least)) end l kept b inv.long inv.spotted t t' spots' _ refl m);
             }

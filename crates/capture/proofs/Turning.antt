@@ -13,47 +13,47 @@ use Rattle.rules.specs.Bytes.{Bytes, at, half, word, part, join}
 use Rattle.rules.specs.Items.{items, All, all_nil, all_cons}
 use Rattle.rules.proofs.Outcomes.{both, pass}
 use Rattle.rules.proofs.Walk.{items-next}
-use Rattle.rules.proofs.Loops.{drop-pred}
-use Rattle.capture.specs.File.{Order, big, little, halfIn, word_in, magic, headerGood, order_of, Packet, packet, packets, recordIn, fileIn}
-use Rattle.capture.specs.Twins.{other, turned4, turnedRecord, turnedRecords, turnedBehind, turnedHeader, twin, freeIn}
+use Rattle.rules.proofs.Loops.{drop_pred}
+use Rattle.capture.specs.File.{Order, big, little, half_in, word_in, magic, header_good, order_of, Packet, packet, packets, record_in, file_in}
+use Rattle.capture.specs.Twins.{other, turned4, turned_record, turned_records, turned_behind, turned_header, twin, free_in}
 use Rattle.capture.specs.Claims.{Fits}
-use Rattle.capture.proofs.Orders.{cut-refused, record-length, record-fields, behind-header, file-length, good-order}
+use Rattle.capture.proofs.Orders.{cut-refused, record_length, record_fields, behind-header, file-length, good-order}
 
 -- ---- records
 
 -- a record's header, turned round
-abbrev turnedFront : List ℕ → List ℕ → List ℕ
-turnedFront s t = turned4 s 0 (turned4 s 4 (turned4 s 8 (turned4 s 12 t)))
+abbrev turned_front : List ℕ → List ℕ → List ℕ
+turned_front s t = turned4 s 0 (turned4 s 4 (turned4 s 8 (turned4 s 12 t)))
 
-fields : (o : Order) (s t : List ℕ) → (word_in (other o) (turnedFront s t) 0 ≡ word_in o s 0) × (word_in (other o) (turnedFront s t) 4 ≡ word_in o s 4)
-    × (word_in (other o) (turnedFront s t) 8 ≡ word_in o s 8) × (word_in (other o) (turnedFront s t) 12 ≡ word_in o s 12)
+fields : (o : Order) (s t : List ℕ) → (word_in (other o) (turned_front s t) 0 ≡ word_in o s 0) × (word_in (other o) (turned_front s t) 4 ≡ word_in o s 4)
+    × (word_in (other o) (turned_front s t) 8 ≡ word_in o s 8) × (word_in (other o) (turned_front s t) 12 ≡ word_in o s 12)
 unfolding word_in word
 fields big s t = (refl, refl, refl, refl)
 fields little s t = (refl, refl, refl, refl)
 
-skipped : (o : Order) (k : ℕ) (s : List ℕ) → turnedRecords o k s ≡ turnedRecords o 0 (drop k s)
-unfolding turnedRecords
+skipped : (o : Order) (k : ℕ) (s : List ℕ) → turned_records o k s ≡ turned_records o 0 (drop k s)
+unfolding turned_records
 skipped o zero s = refl
 skipped o (suc k) [] = refl
 skipped o (suc k) (x ∷ s) = skipped o k s
 
-next : (o : Order) (s : List ℕ) → 1 ≤ length s → turnedRecords o 0 s ≡ turnedRecord o s ++ turnedRecords o 0 (drop (16 + word_in o s 8) s)
-unfolding turnedRecords
+next : (o : Order) (s : List ℕ) → 1 ≤ length s → turned_records o 0 s ≡ turned_record o s ++ turned_records o 0 (drop (16 + word_in o s 8) s)
+unfolding turned_records
 next o [] l = absurd (omega arith)
 next o (x ∷ s) l =
-    ap (λ (t : List ℕ). turnedRecord o (x ∷ s) ++ t)
-    (skipped o (16 + word_in o (x ∷ s) 8 - 1) s ∙ ap (turnedRecords o 0) (sym (drop-pred (16 + word_in o (x ∷ s) 8) x s (omega arith))))
+    ap (λ (t : List ℕ). turned_record o (x ∷ s) ++ t)
+    (skipped o (16 + word_in o (x ∷ s) 8 - 1) s ∙ ap (turned_records o 0) (sym (drop_pred (16 + word_in o (x ∷ s) 8) x s (omega arith))))
 
 -- a record whose header is cut, and one whose header is whole
 module _ (o : Order) (p : ℕ) (s : List ℕ) (l : 1 ≤ length s) where
-  front_same : length s < 16 → turnedRecords o 0 s ≡ s
-  unfolding turnedRecord turnedRecords
-  front_same h = next o s l ∙ rw (lt-ltb (length s) 16 h, drop_of_length-le s {i = 16 + word_in o s 8} (omega arith), turnedRecord, turnedRecords) (append-nil s)
+  front_same : length s < 16 → turned_records o 0 s ≡ s
+  unfolding turned_record turned_records
+  front_same h = next o s l ∙ rw (lt-ltb (length s) 16 h, drop_of_length-le s {i = 16 + word_in o s 8} (omega arith), turned_record, turned_records) (append-nil s)
 
   module _ (h : 16 ≤ length s) where
-    turned-is : turnedRecords o 0 s ≡ turnedFront s (part 16 (16 + word_in o s 8) s ++ turnedRecords o 0 (drop (16 + word_in o s 8) s))
-    unfolding turnedRecord
-    turned-is = next o s l ∙ rw (le-ltb (length s) 16 h, turnedRecord)
+    turned-is : turned_records o 0 s ≡ turned_front s (part 16 (16 + word_in o s 8) s ++ turned_records o 0 (drop (16 + word_in o s 8) s))
+    unfolding turned_record
+    turned-is = next o s l ∙ rw (le-ltb (length s) 16 h, turned_record)
 
     whole : (t : Order) (u : List ℕ) → 16 + word_in t u 8 ≤ length u
         → items (packet t) 0 p u ≡ (record { seconds = word_in t u 0; micros = word_in t u 4; original = word_in t u 12; bytes = part 16 (16 + word_in t u 8) u } ∷> items (packet t) 0 (p + (16 + word_in t u 8)) (drop (16 + word_in t u 8) u))
@@ -68,29 +68,29 @@ module _ (o : Order) (p : ℕ) (s : List ℕ) (l : 1 ≤ length s) where
 
 -- all records, and as many bytes
 record Same (o : Order) (p : ℕ) (s : List ℕ) : Type 0 where
-  reads : items (packet (other o)) 0 p (turnedRecords o 0 s) ≡ items (packet o) 0 p s
-  long : length (turnedRecords o 0 s) ≡ length s
+  reads : items (packet (other o)) 0 p (turned_records o 0 s) ≡ items (packet o) 0 p s
+  long : length (turned_records o 0 s) ≡ length s
 
 module _ (o : Order) (p : ℕ) (s : List ℕ) (l : 1 ≤ length s) where
   abbrev n : ℕ
   n = 16 + word_in o s 8
 
-  same-front : length s < 16 → Same o p s
-  same-front h =
+  same_front : length s < 16 → Same o p s
+  same_front h =
       let i = front_same o p s l h in
       record { reads = ap (items (packet (other o)) 0 p) i ∙ cut-refused (other o) p s l (omega arith) ∙ sym (cut-refused o p s l (omega arith)); long = ap length i }
 
   module _ (h : 16 ≤ length s) where
-    same-cut : length s < n → Same o p s
-    unfolding turnedRecords
-    same-cut a =
-        let c : turnedRecords o 0 s ≡ turnedFront s (drop 16 s) =
-        turned-is o p s l h ∙ ap (turnedFront s) (rw (part_cut o p s l h a, drop_of_length-le s {i = n} (omega arith), turnedRecords) (append-nil (drop 16 s)))
+    same_cut : length s < n → Same o p s
+    unfolding turned_records
+    same_cut a =
+        let c : turned_records o 0 s ≡ turned_front s (drop 16 s) =
+        turned-is o p s l h ∙ ap (turned_front s) (rw (part_cut o p s l h a, drop_of_length-le s {i = n} (omega arith), turned_records) (append-nil (drop 16 s)))
         in
-        let k : length (turnedFront s (drop 16 s)) ≡ length s = omega (arith, length-drop 16 s) in
+        let k : length (turned_front s (drop 16 s)) ≡ length s = omega (arith, length-drop 16 s) in
         record {
           reads =
-              ap (items (packet (other o)) 0 p) c ∙ cut-refused (other o) p (turnedFront s (drop 16 s)) (omega arith) (omega (arith, k, (fields o s (drop 16 s)).2)) ∙ sym (cut-refused o p s l a);
+              ap (items (packet (other o)) 0 p) c ∙ cut-refused (other o) p (turned_front s (drop 16 s)) (omega arith) (omega (arith, k, (fields o s (drop 16 s)).2)) ∙ sym (cut-refused o p s l a);
           long = ap length c ∙ k;
         }
 
@@ -99,10 +99,10 @@ module _ (o : Order) (p : ℕ) (s : List ℕ) (l : 1 ≤ length s) where
       body = part 16 n s
 
       abbrev rest : List ℕ
-      rest = turnedRecords o 0 (drop n s)
+      rest = turned_records o 0 (drop n s)
 
       abbrev turned : List ℕ
-      turned = turnedFront s (body ++ rest)
+      turned = turned_front s (body ++ rest)
 
       body-long : length body ≡ word_in o s 8
       body-long = part-long o p s l h a
@@ -128,13 +128,13 @@ module _ (o : Order) (p : ℕ) (s : List ℕ) (l : 1 ≤ length s) where
           }
 
 same_step : (o : Order) (p : ℕ) (s : List ℕ) → ((q : ℕ) (t : List ℕ) → length t < length s → Same o q t) → Same o p s
-unfolding items turnedRecords
+unfolding items turned_records
 same_step o p [] shorter = record { reads = refl; long = refl }
 same_step o p (x ∷ s) shorter = go (ltb (length (x ∷ s)) 16) refl (ltb (length (x ∷ s)) (16 + word_in o (x ∷ s) 8)) refl
   where
     go : (a : Bool) → ltb (length (x ∷ s)) 16 ≡ a → (b : Bool) → ltb (length (x ∷ s)) (16 + word_in o (x ∷ s) 8) ≡ b → Same o p (x ∷ s)
-    go true e b f = same-front o p (x ∷ s) (omega arith) (ltb-true _ _ e)
-    go false e true f = same-cut o p (x ∷ s) (omega arith) (ltb-false _ _ e) (ltb-true _ _ f)
+    go true e b f = same_front o p (x ∷ s) (omega arith) (ltb-true _ _ e)
+    go false e true f = same_cut o p (x ∷ s) (omega arith) (ltb-false _ _ e) (ltb-true _ _ f)
     go false e false f =
         same_whole o p (x ∷ s) (omega arith) (ltb-false _ _ e) (ltb-false _ _ f) (shorter _ _ (omega (arith, length-drop (16 + word_in o (x ∷ s) 8) (x ∷ s))))
 
@@ -145,8 +145,8 @@ same (suc most) o p s l = same_step o p s (λ q t m. same most o q t (omega arit
 -- ---- the file header
 
 -- no header is good in both byte orders: their magic differs
-exclusive : (s : List ℕ) → Bytes s → headerGood big s ≡ true → headerGood little s ≡ true → ⊥
-unfolding headerGood word_in word
+exclusive : (s : List ℕ) → Bytes s → header_good big s ≡ true → header_good little s ≡ true → ⊥
+unfolding header_good word_in word
 exclusive s b x y =
     let (x, _) = both _ _ x in
     let (x, _) = both _ _ x in
@@ -166,23 +166,23 @@ other_of (good o) = good (other o)
 other_of (bad n p) = bad n p
 
 module _ (s t : List ℕ) (h : 24 ≤ length s) where
-  long : leb 24 (length (turnedHeader s t)) ≡ true
-  long = le-leb 24 (length (turnedHeader s t)) (omega arith)
+  long : leb 24 (length (turned_header s t)) ≡ true
+  long = le-leb 24 (length (turned_header s t)) (omega arith)
 
-  turned-big : headerGood little (turnedHeader s t) ≡ headerGood big s
-  unfolding headerGood word_in word halfIn half
+  turned-big : header_good little (turned_header s t) ≡ header_good big s
+  unfolding header_good word_in word half_in half
   turned-big = rw (long, le-leb 24 (length s) h)
 
-  turned-little : headerGood big (turnedHeader s t) ≡ headerGood little s
-  unfolding headerGood word_in word halfIn half
+  turned-little : header_good big (turned_header s t) ≡ header_good little s
+  unfolding header_good word_in word half_in half
   turned-little = rw (long, le-leb 24 (length s) h)
 
   -- the twin's byte order is the other one, and a bad header's twin is bad
-  turned-order : Bytes s → order_of (turnedHeader s t) ≡ other_of (order_of s)
+  turned-order : Bytes s → order_of (turned_header s t) ≡ other_of (order_of s)
   unfolding order_of other_of
-  turned-order b = go (headerGood big s) refl (headerGood little s) refl
+  turned-order b = go (header_good big s) refl (header_good little s) refl
     where
-      go : (x : Bool) → headerGood big s ≡ x → (y : Bool) → headerGood little s ≡ y → order_of (turnedHeader s t) ≡ other_of (order_of s)
+      go : (x : Bool) → header_good big s ≡ x → (y : Bool) → header_good little s ≡ y → order_of (turned_header s t) ≡ other_of (order_of s)
       go true f true g = absurd (exclusive s b f g)
       go true f false g = rw (turned-little ∙ g, turned-big ∙ f, f, order_of)
       go false f true g = rw (turned-little ∙ g, f, g, order_of)
@@ -192,13 +192,13 @@ module _ (s t : List ℕ) (h : 24 ≤ length s) where
 abbrev found : Outcome Order → List ℕ → Outcome (List Packet)
 found r s = r >>= λ o. items (packet o) 0 24 s
 
-found-same : (r : Outcome Order) (s : List ℕ) → found (other_of r) (turnedBehind r s) ≡ found r s
-unfolding other_of turnedBehind ◌>>=◌
-found-same (good o) s = (same (length s) o 24 s (omega arith)).reads
-found-same (bad n p) s = refl
+found_same : (r : Outcome Order) (s : List ℕ) → found (other_of r) (turned_behind r s) ≡ found r s
+unfolding other_of turned_behind ◌>>=◌
+found_same (good o) s = (same (length s) o 24 s (omega arith)).reads
+found_same (bad n p) s = refl
 
-behind-long : (r : Outcome Order) (s : List ℕ) → length (turnedBehind r s) ≡ length s
-unfolding turnedBehind
+behind-long : (r : Outcome Order) (s : List ℕ) → length (turned_behind r s) ≡ length s
+unfolding turned_behind
 behind-long (good o) s = (same (length s) o 24 s (omega arith)).long
 behind-long (bad n p) s = refl
 
@@ -210,63 +210,63 @@ packets-twin file b = go (ltb (length file) 24) refl
     go true e = rw (e, twin)
     go false e =
         let h = ltb-false (length file) 24 e in
-        let t : List ℕ = turnedBehind (order_of file) (drop 24 file) in
-        let l : length (turnedHeader file t) ≡ length file = omega (arith, behind-long (order_of file) (drop 24 file), length-drop 24 file) in
-        let o : order_of (turnedHeader file t) ≡ other_of (order_of file) = turned-order file t h b in
-        rw (e, twin, l, o, found-same (order_of file) (drop 24 file))
+        let t : List ℕ = turned_behind (order_of file) (drop 24 file) in
+        let l : length (turned_header file t) ≡ length file = omega (arith, behind-long (order_of file) (drop 24 file), length-drop 24 file) in
+        let o : order_of (turned_header file t) ≡ other_of (order_of file) = turned-order file t h b in
+        rw (e, twin, l, o, found_same (order_of file) (drop 24 file))
 
 -- ---- the twin of a file of packets is the file of these packets in the other byte order
 
-front-turned : (o : Order) (k : Packet) (t : List ℕ) → turnedFront (recordIn o k ++ t) k.bytes ≡ recordIn (other o) k
-unfolding recordIn
+front-turned : (o : Order) (k : Packet) (t : List ℕ) → turned_front (record_in o k ++ t) k.bytes ≡ record_in (other o) k
+unfolding record_in
 front-turned big k t = refl
 front-turned little k t = refl
 
 module _ (o : Order) (k : Packet) (f : Fits k) (t : List ℕ) where
   abbrev here : List ℕ
-  here = recordIn o k ++ t
+  here = record_in o k ++ t
 
   here-long : length here ≡ 16 + length k.bytes + length t
-  here-long = length-append (recordIn o k) t ∙ ap (λ (n : ℕ). n + length t) (record-length k o)
+  here-long = length-append (record_in o k) t ∙ ap (λ (n : ℕ). n + length t) (record_length k o)
 
   content : part 16 (16 + word_in o here 8) here ≡ k.bytes
   content =
-      let (_, _, n, _, d) = record-fields k f o t in
+      let (_, _, n, _, d) = record_fields k f o t in
       let e : 16 + length k.bytes - 16 ≡ length k.bytes = omega arith in
       rw (n, e, d) (take-append_seam k.bytes t)
 
-  front : (b : List ℕ) → b ≡ k.bytes → turnedFront here b ≡ recordIn (other o) k
+  front : (b : List ℕ) → b ≡ k.bytes → turned_front here b ≡ record_in (other o) k
   front b e = rw e (front-turned o k t)
 
-  turned-record : turnedRecord o here ≡ recordIn (other o) k
-  unfolding turnedRecord
-  turned-record = rw (le-ltb (length here) 16 (omega (arith, here-long)), turnedRecord) (front _ content)
+  turned_record_lem : turned_record o here ≡ record_in (other o) k
+  unfolding turned_record
+  turned_record_lem = rw (le-ltb (length here) 16 (omega (arith, here-long)), turned_record) (front _ content)
 
-  turned-next : turnedRecords o 0 here ≡ recordIn (other o) k ++ turnedRecords o 0 t
+  turned-next : turned_records o 0 here ≡ record_in (other o) k ++ turned_records o 0 t
   turned-next =
-      let e : 16 + word_in o here 8 ≡ length (recordIn o k) = ap (λ (n : ℕ). 16 + n) (record-fields k f o t).2 ∙ sym (record-length k o) in
-      next o here (omega (arith, here-long)) ∙ rw (turned-record, e) (ap (λ (r : List ℕ). recordIn (other o) k ++ turnedRecords o 0 r) (drop-append_seam (recordIn o k) t))
+      let e : 16 + word_in o here 8 ≡ length (record_in o k) = ap (λ (n : ℕ). 16 + n) (record_fields k f o t).2 ∙ sym (record_length k o) in
+      next o here (omega (arith, here-long)) ∙ rw (turned_record_lem, e) (ap (λ (r : List ℕ). record_in (other o) k ++ turned_records o 0 r) (drop-append_seam (record_in o k) t))
 
-turned-all : (o : Order) {ks : List Packet} → All Fits ks → turnedRecords o 0 (join (map (recordIn o) ks)) ≡ join (map (recordIn (other o)) ks)
-unfolding turnedRecords
+turned-all : (o : Order) {ks : List Packet} → All Fits ks → turned_records o 0 (join (map (record_in o) ks)) ≡ join (map (record_in (other o)) ks)
+unfolding turned_records
 turned-all o all_nil = refl
-turned-all o (all_cons {a = k} {l = ks} f fs) = turned-next o k f (join (map (recordIn o) ks)) ∙ ap (λ (r : List ℕ). recordIn (other o) k ++ r) (turned-all o fs)
+turned-all o (all_cons {a = k} {l = ks} f fs) = turned-next o k f (join (map (record_in o) ks)) ∙ ap (λ (r : List ℕ). record_in (other o) k ++ r) (turned-all o fs)
 
 module _ (zone accuracy snap : ℕ) (ks : List Packet) where
   abbrev file : Order → List ℕ
-  file o = fileIn o (freeIn o zone accuracy snap) ks
+  file o = file_in o (free_in o zone accuracy snap) ks
 
-  twelve : (o : Order) → length (freeIn o zone accuracy snap) ≡ 12
+  twelve : (o : Order) → length (free_in o zone accuracy snap) ≡ 12
   twelve big = refl
   twelve little = refl
 
-  header-turned : (o : Order) → turnedHeader (file o) (join (map (recordIn (other o)) ks)) ≡ file (other o)
-  unfolding fileIn
+  header-turned : (o : Order) → turned_header (file o) (join (map (record_in (other o)) ks)) ≡ file (other o)
+  unfolding file_in
   header-turned big = refl
   header-turned little = refl
 
   pub twin-is : (o : Order) → All Fits ks → twin (file o) ≡ file (other o)
-  unfolding twin turnedBehind
+  unfolding twin turned_behind
   twin-is o fs =
-      let n = file-length (freeIn o zone accuracy snap) (twelve o) ks o in
-      rw (le-ltb (length (file o)) 24 (omega (arith, n)), twin, good-order (freeIn o zone accuracy snap) (twelve o) ks o, behind-header (freeIn o zone accuracy snap) (twelve o) ks o, turned-all o fs) (header-turned o)
+      let n = file-length (free_in o zone accuracy snap) (twelve o) ks o in
+      rw (le-ltb (length (file o)) 24 (omega (arith, n)), twin, good-order (free_in o zone accuracy snap) (twelve o) ks o, behind-header (free_in o zone accuracy snap) (twelve o) ks o, turned-all o fs) (header-turned o)

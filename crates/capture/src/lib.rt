@@ -2,18 +2,18 @@
 ghost use Rattle.std.specs.Prelude.{◌≡◌, [], ◌+◌, ◌-◌, ◌*◌, ◌%◌, ◌≤◌, ◌<◌, length};
 ghost use Rattle.std.proofs.lemmas.List.Edits.{sets};
 ghost use Rattle.rules.specs.Bytes.{pad};
-ghost use Rattle.capture.specs.File.{halfIn, word_in, headerGood};
-ghost use Rattle.capture.specs.Frame.{ipHeader, forUs, lengthsFit, carried, checksum};
-ghost use Rattle.capture.specs.Reading.{oneMessage, class_of, readCapture};
-ghost use Rattle.capture.specs.Writing.{fileOf, writeCapture};
-ghost use Rattle.capture.specs.Told.{order_by, slotOf, datagramForUs, packetBy, toldClass, Placed, Low, Added, noting, More, toldMeasured, countedIn, noted, SpotsIn, Stored, measured, Spotted, toldRead, recordFront, ipFront, udpFront, frontOf, Weighs, Sendable, Sent, Roomy, LaidBehind, Laid, toldWrite};
+ghost use Rattle.capture.specs.File.{half_in, word_in, header_good};
+ghost use Rattle.capture.specs.Frame.{ip_header, for_us, lengths_fit, carried, checksum};
+ghost use Rattle.capture.specs.Reading.{one_message, class_of, read_capture};
+ghost use Rattle.capture.specs.Writing.{file_of, write_capture};
+ghost use Rattle.capture.specs.Told.{order_by, slot_of, datagram_for_us, packet_by, told_class, Placed, Low, Added, noting, More, told_measured, counted_in, noted, SpotsIn, Stored, measured, Spotted, told_read, record_front, ip_front, udp_front, front_of, Weighs, Sendable, Sent, Roomy, LaidBehind, Laid, told_write};
 
 use message::{Checked, Message, MessageRead, message_at};
 use refusal::{Refusal, Why};
 
 // The number of 16 bits at place k in a byte order.
 fn half_in(big: bool, s: &[u8], k: usize) -> u16
-    ensures { result ≡ halfIn (order_by big) s.now k }
+    ensures { result ≡ half_in (order_by big) s.now k }
 {
     let h = wire::half_at(s, k);
     if big {
@@ -35,7 +35,7 @@ fn word_in(big: bool, s: &[u8], k: usize) -> u32
 
 // Whether s begins with a good file header in a byte order.
 fn header_good(big: bool, s: &[u8]) -> bool
-    ensures { result ≡ headerGood (order_by big) s.now }
+    ensures { result ≡ header_good (order_by big) s.now }
 {
     if s.len() < 24 {
         return false;
@@ -61,7 +61,7 @@ enum Slot {
 
 // The record at the start of s.
 fn slot_of(big: bool, s: &[u8]) -> Slot
-    ensures { result ≡ slotOf (order_by big) s.now }
+    ensures { result ≡ slot_of (order_by big) s.now }
 {
     if s.len() < 16 {
         return Slot::Cut;
@@ -75,7 +75,7 @@ fn slot_of(big: bool, s: &[u8]) -> Slot
 
 // How many bytes an IPv4 header says that it has.
 fn header_of(ip: &[u8]) -> usize
-    ensures { (result ≡ ipHeader ip.now) × (result < 64) }
+    ensures { (result ≡ ip_header ip.now) × (result < 64) }
 {
     (wire::byte_at(ip, 0) % 16) as usize * 4
 }
@@ -83,7 +83,7 @@ fn header_of(ip: &[u8]) -> usize
 // Whether what is behind the Ethernet header is seen to be an IPv4 datagram to the port, and no fragment.
 fn datagram_for_us(port: u16, ip: &[u8]) -> bool
     requires { length ip.now < 4294967296 }
-    ensures { result ≡ datagramForUs port ip.now }
+    ensures { result ≡ datagram_for_us port ip.now }
 {
     if wire::byte_at(ip, 0) / 16 != 4 {
         return false;
@@ -107,7 +107,7 @@ fn datagram_for_us(port: u16, ip: &[u8]) -> bool
 // Whether a frame is seen to be for us.
 fn for_us(port: u16, frame: &[u8]) -> bool
     requires { length frame.now < 4294967296 }
-    ensures { result ≡ forUs port frame.now }
+    ensures { result ≡ for_us port frame.now }
 {
     if frame.len() < 34 {
         return false;
@@ -120,7 +120,7 @@ fn for_us(port: u16, frame: &[u8]) -> bool
 
 // Whether the lengths of an IP packet and its datagram fit.
 fn lengths_fit(ip: &[u8]) -> bool
-    ensures { result ≡ lengthsFit ip.now }
+    ensures { result ≡ lengths_fit ip.now }
 {
     let header = header_of(ip);
     let total = wire::half_at(ip, 2) as usize;
@@ -140,7 +140,7 @@ fn lengths_fit(ip: &[u8]) -> bool
 // Whether s is exactly one message that passes every check.
 fn one_message(s: &[u8]) -> bool
     requires { length s.now ≤ 65536 }
-    ensures { result ≡ oneMessage s.now }
+    ensures { result ≡ one_message s.now }
 {
     match message_at(s, 0) {
         MessageRead::Refused(_) => false,
@@ -159,7 +159,7 @@ enum Packed {
 
 fn class_of(port: u16, frame: &[u8], original: u32) -> Packed
     requires { length frame.now < 4294967296 }
-    ensures { (toldClass frame.now result ≡ class_of port (packetBy frame.now original)) × Placed (length frame.now) result }
+    ensures { (told_class frame.now result ≡ class_of port (packet_by frame.now original)) × Placed (length frame.now) result }
 {
     if !for_us(port, frame) {
         return Packed::NotForUs;
@@ -261,7 +261,7 @@ fn with_packet(
 ) -> Counts
     requires frame_bound { start + length frame.now ≤ 65536 }
     requires low { Low t × (t.kept < 800) }
-    ensures { More t result spots.old spots.new start frame.now (class_of port (packetBy frame.now original)) }
+    ensures { More t result spots.old spots.new start frame.now (class_of port (packet_by frame.now original)) }
 {
     let class = class_of(port, frame, original);
     note(spots, t.kept, start, class);
@@ -278,7 +278,7 @@ enum Measured {
 // The record of such a message has 82 bytes at least, so there are fewer than 800 of them.
 fn count(file: &[u8], big: bool, port: u16, spots: &mut [u32; 800]) -> Measured
     requires { (24 ≤ length file.now) × (length file.now ≤ 65536) × (length spots.old ≡ 800) }
-    ensures { (toldMeasured result ≡ countedIn (order_by big) file.now port) × SpotsIn (order_by big) file.now port spots.new }
+    ensures { (told_measured result ≡ counted_in (order_by big) file.now port) × SpotsIn (order_by big) file.now port spots.new }
 {
     let mut counts = Counts {
         bytes: 0,
@@ -316,7 +316,7 @@ fn refuse(why: Why, place: usize) -> Measured
 // What reading a file comes to, or why the file is refused; and where the messages are that are kept.
 fn measure(file: &[u8], port: u16, spots: &mut [u32; 800]) -> Measured
     requires { length spots.old ≡ 800 }
-    ensures { (toldMeasured result ≡ measured file.now port) × Spotted file.now port spots.new }
+    ensures { (told_measured result ≡ measured file.now port) × Spotted file.now port spots.new }
 {
     if 65536 < file.len() {
         return refuse(Why::Large, 65536);
@@ -363,7 +363,7 @@ pub enum CaptureRead {
 
 // Takes the messages of a capture file's datagrams to the port into a recording.
 pub fn read_capture(file: &[u8], port: u16, out: &mut [u8]) -> CaptureRead
-    ensures { toldRead result out.new ≡ readCapture file.now port out.old }
+    ensures { told_read result out.new ≡ read_capture file.now port out.old }
 {
     let mut spots = [0u32; 800];
     match measure(file, port, &mut spots) {
@@ -400,7 +400,7 @@ fn checksum_of(n: usize) -> u16
 // Stores the header of the record of a packet with n bytes of data.
 fn put_record(out: &mut [u8], to: usize, seconds: u32, nanos: u32, n: usize)
     requires { (to ≤ 9000000000) × (n ≤ 65507) }
-    ensures { out.new ≡ sets out.old to (recordFront seconds nanos n) }
+    ensures { out.new ≡ sets out.old to (record_front seconds nanos n) }
 {
     let size = (42 + n) as u32;
     wire::put_word(out, to, seconds);
@@ -412,7 +412,7 @@ fn put_record(out: &mut [u8], to: usize, seconds: u32, nanos: u32, n: usize)
 // Stores the Ethernet and the IPv4 header of its frame.
 fn put_ip(out: &mut [u8], to: usize, n: usize)
     requires { (to ≤ 9000000000) × (n ≤ 65507) }
-    ensures { out.new ≡ sets out.old to (ipFront n) }
+    ensures { out.new ≡ sets out.old to (ip_front n) }
 {
     wire::put_zeros(out, to, 12);
     wire::put_half(out, to + 12, 0x0800);
@@ -427,7 +427,7 @@ fn put_ip(out: &mut [u8], to: usize, n: usize)
 // Stores its UDP header.
 fn put_udp(out: &mut [u8], to: usize, port: u16, n: usize)
     requires { (to ≤ 9000000000) × (n ≤ 65507) }
-    ensures { out.new ≡ sets out.old to (udpFront port n) }
+    ensures { out.new ≡ sets out.old to (udp_front port n) }
 {
     wire::put_half(out, to, 0);
     wire::put_half(out, to + 2, port);
@@ -438,7 +438,7 @@ fn put_udp(out: &mut [u8], to: usize, port: u16, n: usize)
 // Stores all of what stands before the data of a packet.
 fn put_front(out: &mut [u8], to: usize, seconds: u32, nanos: u32, port: u16, n: usize)
     requires { (to ≤ 8000000000) × (n ≤ 65507) }
-    ensures { out.new ≡ sets out.old to (frontOf seconds nanos port n) }
+    ensures { out.new ≡ sets out.old to (front_of seconds nanos port n) }
 {
     put_record(out, to, seconds, nanos, n);
     put_ip(out, to + 16, n);
@@ -500,7 +500,7 @@ fn weigh(recording: &[u8]) -> Weighed
 
 // Stores the header of a capture file.
 fn put_file(out: &mut [u8])
-    ensures { out.new ≡ sets out.old 0 (fileOf []) }
+    ensures { out.new ≡ sets out.old 0 (file_of []) }
 {
     wire::put_word(out, 0, 0xA1_B2_C3_D4);
     wire::put_word(out, 4, 0x00_02_00_04);
@@ -558,7 +558,7 @@ pub enum CaptureWritten {
 
 // Writes the messages of a recording, each in clean form and in a datagram of its own to the port, as a capture file.
 pub fn write_capture(recording: &[u8], port: u16, out: &mut [u8]) -> CaptureWritten
-    ensures { toldWrite result out.new ≡ writeCapture recording.now port out.old }
+    ensures { told_write result out.new ≡ write_capture recording.now port out.old }
 {
     if 65536 < recording.len() {
         return CaptureWritten::Refused(Refusal {

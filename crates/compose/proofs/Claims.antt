@@ -8,19 +8,19 @@ use lib.ListN.{length, drop}
 use lib.Seq.{sets, sets-eq}
 use Rattle.rules.specs.Outcome.{Outcome, good, ◌>>◌, ◌>>=◌}
 use Rattle.rules.specs.Bytes.{Bytes}
-use Rattle.rules.specs.Message.{notLarge, Message, message}
+use Rattle.rules.specs.Message.{not_large, Message, message}
 use Rattle.rules.specs.Writer.{write, Draft, accepted, written, writer}
-use Rattle.rules.specs.Clean.{cleanForm, cleaner}
+use Rattle.rules.specs.Clean.{clean_form, cleaner}
 use Rattle.rules.specs.Buffer as answers
 use Rattle.rules.specs.Buffer.{stored, fitted}
 use Rattle.rules.proofs.Apart.{beside}
 use Rattle.rules.proofs.Outcomes.{pass, step}
 use Rattle.rules.proofs.Numbers.{bytes_drop}
-use Rattle.rules.proofs.RoundTrip.{written_read, read-written, read-valid, clean-twice}
+use Rattle.rules.proofs.RoundTrip.{written_read, read-written, read_valid, clean-twice}
 use Rattle.rules.specs.Valid.{DraftFits}
 use Rattle.rules.specs.Claims.{TellsApart}
-use Rattle.rules.proofs.Writer.{accepts, accepted-valid}
-use Rattle.refusal.proofs.Numbers.{number-positive, same-refusal}
+use Rattle.rules.proofs.Writer.{accepts, accepted_valid}
+use Rattle.refusal.proofs.Numbers.{number_positive, same_refusal}
 use Rattle.compose.specs.declared.Written.{Written}
 use Rattle.compose.specs.declared.Written.TheVariants.{Done, Refused}
 use Rattle.compose.specs.Told.{numbers, told}
@@ -29,13 +29,13 @@ use Rattle.compose.proofs.Answered.{answer}
 -- two answers, each with the buffer after it, that are told alike are the same: a promise of `write` or of `clean` allows one outcome alone
 same_numbers : TellsApart numbers
 same_numbers (Done m) (Done n) e = ap (λ (r : answers.Written). Done r.bytes) e
-same_numbers (Done m) (Refused x) e = absurd (number-positive x.why (sym (ap (λ (r : answers.Written). r.number) e)))
-same_numbers (Refused x) (Done n) e = absurd (number-positive x.why (ap (λ (r : answers.Written). r.number) e))
+same_numbers (Done m) (Refused x) e = absurd (number_positive x.why (sym (ap (λ (r : answers.Written). r.number) e)))
+same_numbers (Refused x) (Done n) e = absurd (number_positive x.why (ap (λ (r : answers.Written). r.number) e))
 same_numbers (Refused x) (Refused y) e =
-    ap Refused (same-refusal x y (ap (λ (r : answers.Written). r.number) e) (ap (λ (r : answers.Written). r.place) e))
+    ap Refused (same_refusal x y (ap (λ (r : answers.Written). r.number) e) (ap (λ (r : answers.Written). r.place) e))
 
-pub tells-apart : TellsApart (λ (x : Written × List ℕ). told x.0 x.1)
-tells-apart = beside numbers same_numbers
+pub tells_apart : TellsApart (λ (x : Written × List ℕ). told x.0 x.1)
+tells_apart = beside numbers same_numbers
 
 -- bytes that were stored at the start of a buffer stand there
 stands : (s b : List ℕ) → length s ≤ length b → sets b 0 s ≡ s ++ drop (0 + length s) b
@@ -55,7 +55,7 @@ pub written-again : (d : Draft) (b : List ℕ) {m : Message} → DraftFits d →
 unfolding writer written
 written-again d b {m} f e l = record {
   written = kept (written d) (write m) b (step _ _ e refl) l;
-  read = rw (stands (write m) b l) (written_read m (accepted-valid d f (accepts d e)) 0 _);
+  read = rw (stands (write m) b l) (written_read m (accepted_valid d f (accepts d e)) 0 _);
 }
 
 -- a message that passes, with room for its clean form: the cleaner writes its record
@@ -63,8 +63,8 @@ pub cleaned-again : (s b : List ℕ) (m : Message) (n : ℕ) → Bytes s → len
     → Again m b (cleaner s b)
 unfolding cleaner
 cleaned-again s b m n v h e l = record {
-  written = kept (notLarge s >> cleanForm s) (write m) b (pass _ _ _ _ (le-ltb 65536 (length s) h) (read-written s v m n e)) l;
-  read = rw (stands (write m) b l) (written_read m (read-valid 0 s v h m n e) 0 _);
+  written = kept (not_large s >> clean_form s) (write m) b (pass _ _ _ _ (le-ltb 65536 (length s) h) (read-written s v m n e)) l;
+  read = rw (stands (write m) b l) (written_read m (read_valid 0 s v h m n e) 0 _);
 }
 
 -- so the answer that a promise allows says how many bytes were written, and the buffer that it leaves is read as the record
@@ -74,9 +74,9 @@ pub record Stands (m : Message) (a : Written) (after : List ℕ) : Type 0 where
 
 pub promised : {m : Message} {b : List ℕ} {w : answers.Written × List ℕ} → Again m b w → (a : Written) (after : List ℕ) → told a after ≡ w → Stands m a after
 promised {m} {b} g a after e =
-    let same = tells-apart (a, after) (Done (length (write m)), sets b 0 (write m)) (e ∙ sym g.written) in
+    let same = tells_apart (a, after) (Done (length (write m)), sets b 0 (write m)) (e ∙ sym g.written) in
     record { bytes = ap (λ (x : Written × List ℕ). x.0) same; read = ap (λ (x : Written × List ℕ). message 0 x.1) same ∙ g.read }
 
 -- and the buffer, cleaned again, gives the same bytes
-pub cleaned-twice : (s b c : List ℕ) → Bytes s → Bytes b → length s ≤ 65536 → cleanForm s ≡ good c → length c ≤ length b → cleanForm (sets b 0 c) ≡ good c
+pub cleaned-twice : (s b c : List ℕ) → Bytes s → Bytes b → length s ≤ 65536 → clean_form s ≡ good c → length c ≤ length b → clean_form (sets b 0 c) ≡ good c
 cleaned-twice s b c v u h e l = rw (stands c b l) (clean-twice s c (drop (0 + length c) b) v h (bytes_drop (0 + length c) b u) e)

@@ -7,11 +7,11 @@ use native.Mathlib.Omega.{arith}
 use lib.ListN.{length, take, drop, length-append, length-drop}
 use lib.Seq.{take-add, take_all, drop-drop}
 use Rattle.rules.specs.Items.{Fills, none}
-use Rattle.rules.specs.Packages.{packageFits, piece, Piece}
+use Rattle.rules.specs.Packages.{package_fits, piece, Piece}
 use Rattle.rules.proofs.Cut as Cut
-use Rattle.rules.proofs.Loops.{Doing, doing-start, doing-next, doing-bad}
+use Rattle.rules.proofs.Loops.{Doing, doing_start, doing_next, doing_bad}
 use Rattle.compose.specs.Payload.{WalkedOver}
-use Rattle.compose.proofs.Run.{size, this, read, unread, fills-append, fills_one}
+use Rattle.compose.proofs.Run.{size, this, read, unread, fills_append, fills_one}
 
 -- the packages before index i are done: those before index m, and those behind it
 pub record Walking (s : List ℕ) (i n m : ℕ) : Type 0 where
@@ -32,7 +32,7 @@ module _ (s : List ℕ) where
   walk_start = record {
     done = [];
     inside = omega arith;
-    doing = doing-start piece s;
+    doing = doing_start piece s;
     fills = none;
     many = refl;
     few = omega arith;
@@ -44,8 +44,8 @@ module _ (s : List ℕ) where
   }
 
   module _ (i n m : ℕ) (w : Walking s i n m) where
-    pub walk-ended : length s ≤ i → WalkedOver s (record { end = i; all = n; mid = m })
-    walk-ended l =
+    pub walk_ended : length s ≤ i → WalkedOver s (record { end = i; all = n; mid = m })
+    walk_ended l =
         let a : Fills Piece w.done s = rw (take_all i s l) at w.fills in
         let k : Fills Piece w.aft (drop m s) = rw (take_all (i - m) (drop m s) (omega (arith, length-drop m s))) at w.back in
         record {
@@ -62,33 +62,33 @@ module _ (s : List ℕ) where
         }
 
     module _ (l : i < length s) where
-      pub walk-stopped : (Cut.Fit (drop i s) → ⊥) → WalkedOver s (record { end = i; all = n; mid = m })
-      walk-stopped u = record {
+      pub walk_stopped : (Cut.Fit (drop i s) → ⊥) → WalkedOver s (record { end = i; all = n; mid = m })
+      walk_stopped u = record {
         pieces = w.done;
         inside = w.inside;
         many = w.many;
         whole = λ x. absurd (omega arith);
-        broken = λ x. doing-bad piece s w.done i w.doing l (unread s i (unfit (packageFits (drop i s)) refl));
+        broken = λ x. doing_bad piece s w.done i w.doing l (unread s i (unfit (package_fits (drop i s)) refl));
         halved = λ x. absurd (omega arith);
       }
         where
-          unfit : (b : Bool) → packageFits (drop i s) ≡ b → packageFits (drop i s) ≡ false
+          unfit : (b : Bool) → package_fits (drop i s) ≡ b → package_fits (drop i s) ≡ false
           unfit true e = absurd (u (Cut.fit (drop i s) e))
           unfit false e = e
 
       module _ (f : Cut.Fit (drop i s)) {k : ℕ} (e : k ≡ size s i) where
         one : Fills Piece (this s i ∷ []) (this s i)
-        one = fills_one (this s i) (Cut.piece-of (drop i s) f)
+        one = fills_one (this s i) (Cut.piece_of_lem (drop i s) f)
 
         all : Fills Piece (w.done ++ (this s i ∷ [])) (take (i + size s i) s)
-        all = rw (take-add i (size s i) s) (fills-append w.fills one)
+        all = rw (take-add i (size s i) s) (fills_append w.fills one)
 
         behind : Fills Piece (w.aft ++ (this s i ∷ [])) (take (i + size s i - m) (drop m s))
         behind =
             let a : i + size s i - m ≡ (i - m) + size s i = omega (arith, w.border) in
             let b : m + (i - m) ≡ i = omega (arith, w.border) in
             let c : drop (i - m) (drop m s) ≡ drop i s = drop-drop (i - m) m s ∙ ap (λ (x : ℕ). drop x s) b in
-            rw (a, take-add (i - m) (size s i) (drop m s), c) (fills-append w.back one)
+            rw (a, take-add (i - m) (size s i) (drop m s), c) (fills_append w.back one)
 
         empty : Fills Piece [] (take (i + size s i - (i + size s i)) (drop (i + size s i) s))
         empty = let a : i + size s i - (i + size s i) ≡ 0 = omega arith in rw a none
@@ -98,7 +98,7 @@ module _ (s : List ℕ) where
         walk_same = rw e (record {
           done = w.done ++ (this s i ∷ []);
           inside = omega (arith, f.room, length-drop i s);
-          doing = doing-next piece s w.done i (this s i) (size s i) w.doing l (omega (arith, f.least)) (read s i (Cut.fits (drop i s) f));
+          doing = doing_next piece s w.done i (this s i) (size s i) w.doing l (omega (arith, f.least)) (read s i (Cut.fits (drop i s) f));
           fills = all;
           many = omega (arith, w.many, length-append w.done (this s i ∷ []));
           few = omega (arith, w.few, f.least);
@@ -109,11 +109,11 @@ module _ (s : List ℕ) where
           back = behind;
         })
 
-        pub walk-border : Walking s (i + k) (n + 1) (i + k)
-        walk-border = rw e (record {
+        pub walk_border : Walking s (i + k) (n + 1) (i + k)
+        walk_border = rw e (record {
           done = w.done ++ (this s i ∷ []);
           inside = omega (arith, f.room, length-drop i s);
-          doing = doing-next piece s w.done i (this s i) (size s i) w.doing l (omega (arith, f.least)) (read s i (Cut.fits (drop i s) f));
+          doing = doing_next piece s w.done i (this s i) (size s i) w.doing l (omega (arith, f.least)) (read s i (Cut.fits (drop i s) f));
           fills = all;
           many = omega (arith, w.many, length-append w.done (this s i ∷ []));
           few = omega (arith, w.few, f.least);

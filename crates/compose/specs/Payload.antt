@@ -3,8 +3,8 @@ use Rattle.std.specs.Prelude.{ℕ, zero, ◌+◌, ◌/◌, ◌≤◌, ◌<◌, �
 use Rattle.std.proofs.lemmas.List.Edits.{sets}
 use Rattle.rules.specs.Outcome.{Outcome, good, bad, PACKAGE}
 use Rattle.rules.specs.Bytes.{half, put32, pad, part, join}
-use Rattle.rules.specs.Packages.{cut, packageOf, piece_of}
-use Rattle.rules.specs.Message.{recordBits}
+use Rattle.rules.specs.Packages.{cut, package_of, piece_of}
+use Rattle.rules.specs.Message.{record_bits}
 use Rattle.rules.specs.Writer.{write, Draft, drafted}
 use Rattle.rules.specs.Buffer.{Written, stored, fitted}
 use Rattle.compose.specs.declared.Record.{Record}
@@ -16,13 +16,13 @@ pub record Cuts (s : List ℕ) : Type 0 where
   pub cuts : cut zero s ≡ good pieces
 
 -- the packages of these pieces, written one behind the other
-abbrev pub piecesWritten : List (List ℕ) → List ℕ
-piecesWritten cs = join (map piece_of (map packageOf cs))
+abbrev pub pieces_written : List (List ℕ) → List ℕ
+pieces_written cs = join (map piece_of (map package_of cs))
 
 -- the packages of a run that is cut so, written
-unfoldable pub payloadOf : Outcome (List (List ℕ)) → List ℕ
-payloadOf (good cs) = piecesWritten cs
-payloadOf (bad n p) = []
+unfoldable pub payload_of : Outcome (List (List ℕ)) → List ℕ
+payload_of (good cs) = pieces_written cs
+payload_of (bad n p) = []
 
 -- both parts of a run, which meet at index m, are cut into pieces
 pub record Halved (s : List ℕ) (m : ℕ) : Type 0 where
@@ -46,24 +46,24 @@ Lies buffer k run i = take (pad (half (drop i run) 4)) (drop (k + i) buffer) ≡
 -- that package is stored there, clean, and the next one begins at index e of the run
 pub record Moved (buffer : List ℕ) (k : ℕ) (run : List ℕ) (i : ℕ) (after : List ℕ) (e : ℕ) : Type 0 where
   pub end : i + pad (half (drop i run) 4) ≡ e
-  pub bytes : after ≡ sets buffer (k + i) (piece_of (packageOf (part i e run)))
+  pub bytes : after ≡ sets buffer (k + i) (piece_of (package_of (part i e run)))
 
 -- the 24 bytes of a header: words, flags, id, sequence, size, seconds, nanos
-abbrev pub headerOf : ℕ → ℕ → ℕ → ℕ → ℕ → ℕ → ℕ → List ℕ
-headerOf w f i q z s n = (16 + w) ∷ 0 ∷ 0 ∷ f ∷ put32 i (put32 q (put32 z (put32 s (put32 n []))))
+abbrev pub header_of : ℕ → ℕ → ℕ → ℕ → ℕ → ℕ → ℕ → List ℕ
+header_of w f i q z s n = (16 + w) ∷ 0 ∷ 0 ∷ f ∷ put32 i (put32 q (put32 z (put32 s (put32 n []))))
 
 -- the flags of a message whose packages take so many bytes: those that a record keeps, and flag 7 where there are packages
-abbrev pub flagsWith : ℕ → ℕ → ℕ
-flagsWith flags payload = recordBits flags + elim (eqb payload 0) [ true ↦ 0 | false ↦ 128 ]
+abbrev pub flags_with : ℕ → ℕ → ℕ
+flags_with flags payload = record_bits flags + elim (eqb payload 0) [ true ↦ 0 | false ↦ 128 ]
 
 -- the header of a message with this record, an option run of so many bytes, and packages of so many
-abbrev pub headerBy : Record → ℕ → ℕ → List ℕ
-headerBy r run payload = headerOf (pad run / 4) (flagsWith r.flags payload) r.id.0 r.sequence (24 + pad run + payload) r.seconds r.nanos
+abbrev pub header_by : Record → ℕ → ℕ → List ℕ
+header_by r run payload = header_of (pad run / 4) (flags_with r.flags payload) r.id.0 r.sequence (24 + pad run + payload) r.seconds r.nanos
 
 -- the message of a draft whose run is cut so
-unfoldable pub messageOf : Draft → Outcome (List (List ℕ)) → List ℕ
-messageOf d (good cs) = write (drafted d cs)
-messageOf d (bad n p) = []
+unfoldable pub message_of : Draft → Outcome (List (List ℕ)) → List ℕ
+message_of d (good cs) = write (drafted d cs)
+message_of d (bad n p) = []
 
 -- how many bytes it has
 abbrev pub size_of : Draft → ℕ
@@ -83,9 +83,9 @@ pub record Ready (d : Draft) (buffer : List ℕ) : Type 0 where
 
 -- the answer then
 unfoldable pub finished : Draft → List ℕ → Written × List ℕ
-finished d buffer = stored buffer (fitted buffer (messageOf d (cut zero d.packages)))
+finished d buffer = stored buffer (fitted buffer (message_of d (cut zero d.packages)))
 
 -- how many bytes an outcome has
-unfoldable pub sizeOfOutcome : Outcome (List ℕ) → Outcome ℕ
-sizeOfOutcome (good s) = good (length s)
-sizeOfOutcome (bad n p) = bad n p
+unfoldable pub size_of_outcome : Outcome (List ℕ) → Outcome ℕ
+size_of_outcome (good s) = good (length s)
+size_of_outcome (bad n p) = bad n p

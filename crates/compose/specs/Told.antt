@@ -12,8 +12,8 @@ use Rattle.compose.specs.declared.Written.{Written}
 use Rattle.compose.specs.declared.Written.TheVariants.{Done, Refused}
 
 -- the draft of a record, an option run and a run of packages
-abbrev pub draftOf : Record → List ℕ → List ℕ → Draft
-draftOf r o q = record {
+abbrev pub draft_of : Record → List ℕ → List ℕ → Draft
+draft_of r o q = record {
   flags = r.flags;
   id = r.id.0;
   sequence = r.sequence;
@@ -24,8 +24,8 @@ draftOf r o q = record {
 }
 
 -- what a header has of it
-abbrev pub recordBy : Header → Record
-recordBy h = record { flags = h.flags; id = h.id; sequence = h.sequence; seconds = h.seconds; nanos = h.nanos }
+abbrev pub record_by : Header → Record
+record_by h = record { flags = h.flags; id = h.id; sequence = h.sequence; seconds = h.seconds; nanos = h.nanos }
 
 -- an answer's number, place and bytes written
 abbrev pub numbers : Written → answers.Written
@@ -37,6 +37,6 @@ abbrev pub told : Written → List ℕ → answers.Written × List ℕ
 told a b = (numbers a, b)
 
 -- what is measured
-abbrev pub toldSize : Size → Outcome ℕ
-toldSize (size.Needs n) = good n
-toldSize (size.Refused x) = refused x
+abbrev pub told_size : Size → Outcome ℕ
+told_size (size.Needs n) = good n
+told_size (size.Refused x) = refused x

@@ -12,31 +12,31 @@ use lib.ListN.{length, take, drop, replicate, length-append, length-take}
 use lib.Seq.{take_all, sets, sets-eq, take_at, drop_at, take-append_seam, drop-append_seam}
 use borrow.Rule.Slice.PartMut.{put_mid}
 use Rattle.rules.specs.Outcome.{Outcome, good, bad, refuse, ◌>>◌, ◌>>=◌, STANDARD, PACKAGE, COUNT, ROOM, LARGE}
-use Rattle.rules.specs.Bytes.{Bytes, pad, padded, part, oneIfAny}
-use Rattle.rules.specs.Options.{countSaid, differs}
+use Rattle.rules.specs.Bytes.{Bytes, pad, padded, part, one_if_any}
+use Rattle.rules.specs.Options.{count_said, differs}
 use Rattle.rules.specs.Packages.{cut}
-use Rattle.rules.specs.Message.{Head, head, payloadStart, fragmentBits, standardBit, everyCheck}
-use Rattle.rules.specs.Reading.{messageSpot}
-use Rattle.rules.specs.Clean.{cleanForm}
+use Rattle.rules.specs.Message.{Head, head, payload_start, fragment_bits, standard_bit, every_check}
+use Rattle.rules.specs.Reading.{message_spot}
+use Rattle.rules.specs.Clean.{clean_form}
 use Rattle.rules.specs.Buffer.{Written, stored, fitted}
-use Rattle.rules.proofs.Outcomes.{pass, halt, step, stop, stepped, good-inj, good≢bad, refused-only}
+use Rattle.rules.proofs.Outcomes.{pass, halt, step, stop, stepped, good_inj, good≢bad, refused-only}
 use Rattle.compose.specs.declared.Record.{Record}
-use Rattle.compose.specs.Payload.{Cuts, headerOf}
-use Rattle.fragments.specs.Fragment.{WHOLE, otherBits, Fragment, optionsOf, withoutOffset, fragment, fragmentBytes, payloadsOf}
-use Rattle.fragments.specs.Told.{recordWhole}
+use Rattle.compose.specs.Payload.{Cuts, header_of}
+use Rattle.fragments.specs.Fragment.{WHOLE, other_bits, Fragment, options_of, without_offset, fragment, fragment_bytes, payloads_of}
+use Rattle.fragments.specs.Told.{record_whole}
 use Rattle.message.specs.declared.Header.{Header}
-use Rattle.message.specs.Answers.{headOfHeader}
+use Rattle.message.specs.Answers.{head_of_header}
 use Rattle.fragments.specs.Cutting.{whole_of}
-use Rattle.fragments.specs.Joining.{fragmentsFrom, keptOptions, joinedWith, at_start, cleanJoined, joined, joiner}
+use Rattle.fragments.specs.Joining.{fragments_from, kept_options, joined_with, at_start, clean_joined, joined, joiner}
 use Rattle.fragments.specs.declared.Passed.{Passed}
-use Rattle.fragments.specs.Stored.{cleanedOf, wholeBy, scan, starts, gathered, header_at, payloadsIn, oneIf, keptBy, Joinable, Storable, WholeOptions}
-use Rattle.fragments.proofs.Gathering.{Headed, headed, nothing, first-stopped, first-options}
+use Rattle.fragments.specs.Stored.{cleaned_of, whole_by, scan, starts, gathered, header_at, payloads_in, one_if, kept_by, Joinable, Storable, WholeOptions}
+use Rattle.fragments.proofs.Gathering.{Headed, headed, nothing, first_stopped, first-options}
 use Rattle.fragments.proofs.One.{standard-bit}
 use Rattle.fragments.proofs.Payloads.{taken_here}
-use Rattle.fragments.proofs.Options.{made_of, once-of, said-without}
-use Rattle.fragments.proofs.Again.{Valid, head-again, run-part, payload-again, openChecks, whole-checks, length-fragment}
+use Rattle.fragments.proofs.Options.{made_of, once_of, said-without}
+use Rattle.fragments.proofs.Again.{Valid, head-again, run-part, payload-again, open_checks, whole-checks, length-fragment}
 use Rattle.fragments.proofs.Readings.{ReadAll, reads_all}
-use Rattle.fragments.proofs.Joining.{whole-valid, whole-bytes, whole-short}
+use Rattle.fragments.proofs.Joining.{whole_valid, whole-bytes, whole-short}
 use Rattle.fragments.proofs.Scan.{Verdict, yes, no, verdict}
 use Rattle.rules.proofs.Pieces.{length-padded}
 use Rattle.fragments.proofs.Stores.{glue, front_bytes}
@@ -53,15 +53,15 @@ abbrev pub Numbers : Record → Fragment → Type 0
 Numbers q w = (q.flags ≡ w.flags) × (q.id.0 ≡ w.id) × (q.sequence ≡ w.sequence) × (q.seconds ≡ w.seconds) × (q.nanos ≡ w.nanos)
 
 -- the clean form of a whole one, by its parts
-module _ (w : Fragment) (v : Valid w) (b : Bytes (fragmentBytes w)) (l : length (fragmentBytes w) ≤ 65536) (z : w.bits ≡ WHOLE) (q : Record) (same : Numbers q w) (cs : List (List ℕ))
-    (y : everyCheck 0 (fragmentBytes w) (head (fragmentBytes w)) ≡ good (length w.options, cs)) where
+module _ (w : Fragment) (v : Valid w) (b : Bytes (fragment_bytes w)) (l : length (fragment_bytes w) ≤ 65536) (z : w.bits ≡ WHOLE) (q : Record) (same : Numbers q w) (cs : List (List ℕ))
+    (y : every_check 0 (fragment_bytes w) (head (fragment_bytes w)) ≡ good (length w.options, cs)) where
   abbrev t : List ℕ
-  t = fragmentBytes w
+  t = fragment_bytes w
 
   abbrev r : ℕ × List (List ℕ)
   r = (length w.options, cs)
 
-  read : Answering.Read t (messageSpot 0 (head t) r)
+  read : Answering.Read t (message_spot 0 (head t) r)
   read = Answering.read-spot t b l r y
 
   head-is : head t ≡ record { version = 1; words = length (padded w.options) / 4; kind = 0; flags = w.flags + w.bits * 16; id = w.id; sequence = w.sequence; size = 24 + length (padded w.options) + length w.payload; seconds = w.seconds; nanos = w.nanos }
@@ -70,8 +70,8 @@ module _ (w : Fragment) (v : Valid w) (b : Bytes (fragmentBytes w)) (l : length 
   flags-is : q.flags ≡ (head t).flags
   flags-is = let u : w.flags + w.bits * 16 ≡ w.flags = omega arith in rw (head-is, u) same.0
 
-  same_spot : Same q (messageSpot 0 (head t) r)
-  unfolding messageSpot
+  same_spot : Same q (message_spot 0 (head t) r)
+  unfolding message_spot
   same_spot = record {
     flags = flags-is;
     id = rw head-is same.1;
@@ -83,47 +83,47 @@ module _ (w : Fragment) (v : Valid w) (b : Bytes (fragmentBytes w)) (l : length 
   options-is : part 24 (24 + length w.options) t ≡ w.options
   options-is = rw append-nil at (run-part w v [])
 
-  payload-is : part (payloadStart (head t)) (head t).size t ≡ w.payload
+  payload-is : part (payload_start (head t)) (head t).size t ≡ w.payload
   payload-is = rw append-nil at (payload-again w v [])
 
-  whole_is : whole_of read.held ≡ wholeBy q w.options w.payload
-  unfolding messageSpot
-  whole_is = read.whole q same_spot ∙ rw (options-is, zero-add (payloadStart (head t)), zero-add (head t).size, payload-is)
+  whole_is : whole_of read.held ≡ whole_by q w.options w.payload
+  unfolding message_spot
+  whole_is = read.whole q same_spot ∙ rw (options-is, zero-add (payload_start (head t)), zero-add (head t).size, payload-is)
 
-  clean_of : cleanForm t ≡ good (fragmentBytes (wholeBy q w.options w.payload))
-  clean_of = read.clean ∙ ap (λ (x : Fragment). good (fragmentBytes x)) whole_is
+  clean_of : clean_form t ≡ good (fragment_bytes (whole_by q w.options w.payload))
+  clean_of = read.clean ∙ ap (λ (x : Fragment). good (fragment_bytes x)) whole_is
 
-module _ (s : List ℕ) (bs : Bytes s) (l : length s ≤ 65536) (f : Fragment) (fs : List Fragment) (e : fragmentsFrom none 0 0 s ≡ good (f ∷ fs)) where
+module _ (s : List ℕ) (bs : Bytes s) (l : length s ≤ 65536) (f : Fragment) (fs : List Fragment) (e : fragments_from none 0 0 s ≡ good (f ∷ fs)) where
   all : ReadAll s (f ∷ fs)
   all = reads_all none 0 0 s bs l e
 
   abbrev w : Fragment
-  w = joinedWith f fs
+  w = joined_with f fs
 
   v : Valid w
-  v = whole-valid f fs s l all
+  v = whole_valid f fs s l all
 
   is_whole : w.bits ≡ WHOLE
-  unfolding joinedWith
+  unfolding joined_with
   is_whole = refl
 
-  checks : everyCheck 0 (fragmentBytes w) (head (fragmentBytes w)) ≡ openChecks w v [] 0
+  checks : every_check 0 (fragment_bytes w) (head (fragment_bytes w)) ≡ open_checks w v [] 0
   checks = rw append-nil at (whole-checks w v [] 0 is_whole)
 
   -- refused, from check 9 on
-  joined-bad : {n p : ℕ} (b : List ℕ) → openChecks w v [] 0 ≡ bad n p → answer n 0 0 b ≡ joiner s b
-  unfolding joiner joined cleanJoined cleanForm at_start stored
+  joined-bad : {n p : ℕ} (b : List ℕ) → open_checks w v [] 0 ≡ bad n p → answer n 0 0 b ≡ joiner s b
+  unfolding joiner joined clean_joined clean_form at_start stored
   joined-bad b z = sym (ap (stored b) (stop _ _ (pass _ _ _ _ (le-ltb 65536 (length s) l) (step _ _ e (ap at_start (stop _ _ (checks ∙ z)))))))
 
-  pub not-standard : (b : List ℕ) → (standardBit w.flags ≡ oneIfAny w.payload → ⊥) → answer STANDARD 0 0 b ≡ joiner s b
-  not-standard b h = joined-bad b (halt _ _ _ _ (rw (ne_eqb (standardBit w.flags) (oneIfAny w.payload) h)))
+  pub not_standard : (b : List ℕ) → (standard_bit w.flags ≡ one_if_any w.payload → ⊥) → answer STANDARD 0 0 b ≡ joiner s b
+  not_standard b h = joined-bad b (halt _ _ _ _ (rw (ne_eqb (standard_bit w.flags) (one_if_any w.payload) h)))
 
-  module _ (std : standardBit w.flags ≡ oneIfAny w.payload) where
-    after-standard : {o : Outcome (ℕ × List (List ℕ))} → (cut (0 + (24 + length (padded w.options))) w.payload >>= λ cs. (refuse (differs (countSaid w.options) (length cs)) COUNT 0 >> good (length w.options, cs))) ≡ o → openChecks w v [] 0 ≡ o
-    after-standard z = pass _ _ _ _ (rw (eq-eqb (standardBit w.flags) (oneIfAny w.payload) std)) z
+  module _ (std : standard_bit w.flags ≡ one_if_any w.payload) where
+    after-standard : {o : Outcome (ℕ × List (List ℕ))} → (cut (0 + (24 + length (padded w.options))) w.payload >>= λ cs. (refuse (differs (count_said w.options) (length cs)) COUNT 0 >> good (length w.options, cs))) ≡ o → open_checks w v [] 0 ≡ o
+    after-standard z = pass _ _ _ _ (rw (eq-eqb (standard_bit w.flags) (one_if_any w.payload) std)) z
 
-    pub not-packages : (b : List ℕ) → (scan 0 w.payload ≡ 0 → ⊥) → answer PACKAGE 0 0 b ≡ joiner s b
-    not-packages b h = go (verdict 0 (0 + (24 + length (padded w.options))) w.payload v.words)
+    pub not_packages : (b : List ℕ) → (scan 0 w.payload ≡ 0 → ⊥) → answer PACKAGE 0 0 b ≡ joiner s b
+    not_packages b h = go (verdict 0 (0 + (24 + length (padded w.options))) w.payload v.words)
       where
         go : Verdict (cut (0 + (24 + length (padded w.options))) w.payload) (scan 0 w.payload) (starts 0 w.payload) → answer PACKAGE 0 0 b ≡ joiner s b
         go (yes cs y z c) = absurd (h z)
@@ -136,36 +136,36 @@ module _ (s : List ℕ) (bs : Bytes s) (l : length s ≤ 65536) (f : Fragment) (
         go (yes cs y z c) = record { pieces = cs; cuts = y }
         go (no q y n) = absurd (n z)
 
-    pub not-counted : scan 0 w.payload ≡ 0 → (b : List ℕ) → differs (countSaid w.options) (starts 0 w.payload) ≡ true → answer COUNT 0 0 b ≡ joiner s b
-    not-counted z b h = go (verdict 0 (0 + (24 + length (padded w.options))) w.payload v.words)
+    pub not_counted : scan 0 w.payload ≡ 0 → (b : List ℕ) → differs (count_said w.options) (starts 0 w.payload) ≡ true → answer COUNT 0 0 b ≡ joiner s b
+    not_counted z b h = go (verdict 0 (0 + (24 + length (padded w.options))) w.payload v.words)
       where
         go : Verdict (cut (0 + (24 + length (padded w.options))) w.payload) (scan 0 w.payload) (starts 0 w.payload) → answer COUNT 0 0 b ≡ joiner s b
         go (yes cs y x c) = joined-bad b (after-standard (step _ _ y (halt _ _ _ _ (rw c h))))
         go (no q y n) = absurd (n z)
 
-    module _ (q : Record) (same : Numbers q w) (fill : scan 0 w.payload ≡ 0) (right : differs (countSaid w.options) (starts 0 w.payload) ≡ false) where
+    module _ (q : Record) (same : Numbers q w) (fill : scan 0 w.payload ≡ 0) (right : differs (count_said w.options) (starts 0 w.payload) ≡ false) where
       abbrev c : List ℕ
-      c = fragmentBytes (wholeBy q w.options w.payload)
+      c = fragment_bytes (whole_by q w.options w.payload)
 
-      checks-good : (cs : List (List ℕ)) → cut (0 + (24 + length (padded w.options))) w.payload ≡ good cs → length cs ≡ starts 0 w.payload → everyCheck 0 (fragmentBytes w) (head (fragmentBytes w)) ≡ good (length w.options, cs)
+      checks-good : (cs : List (List ℕ)) → cut (0 + (24 + length (padded w.options))) w.payload ≡ good cs → length cs ≡ starts 0 w.payload → every_check 0 (fragment_bytes w) (head (fragment_bytes w)) ≡ good (length w.options, cs)
       checks-good cs y c = checks ∙ after-standard (step _ _ y (pass _ _ _ _ (rw c right) refl))
 
-      clean_is : cleanForm (fragmentBytes w) ≡ good c
+      clean_is : clean_form (fragment_bytes w) ≡ good c
       clean_is = go (verdict 0 (0 + (24 + length (padded w.options))) w.payload v.words)
         where
-          by : (cs : List (List ℕ)) → everyCheck 0 (fragmentBytes w) (head (fragmentBytes w)) ≡ good (length w.options, cs) → cleanForm (fragmentBytes w) ≡ good c
+          by : (cs : List (List ℕ)) → every_check 0 (fragment_bytes w) (head (fragment_bytes w)) ≡ good (length w.options, cs) → clean_form (fragment_bytes w) ≡ good c
           by cs y = clean_of w v (whole-bytes f fs s l all) (omega (arith, whole-short f fs s l all)) is_whole q same cs y
 
-          go : Verdict (cut (0 + (24 + length (padded w.options))) w.payload) (scan 0 w.payload) (starts 0 w.payload) → cleanForm (fragmentBytes w) ≡ good c
+          go : Verdict (cut (0 + (24 + length (padded w.options))) w.payload) (scan 0 w.payload) (starts 0 w.payload) → clean_form (fragment_bytes w) ≡ good c
           go (yes cs y z m) = by cs (checks-good cs y m)
           go (no p y z) = absurd (z fill)
 
       size_is : length c ≡ 24 + pad (length w.options) + length w.payload
-      unfolding fragmentBytes
-      size_is = omega (arith, length-append (padded w.options) (cleanedOf (cut 0 w.payload)), length-padded w.options, cleaned-length w.payload (cuts fill))
+      unfolding fragment_bytes
+      size_is = omega (arith, length-append (padded w.options) (cleaned_of (cut 0 w.payload)), length-padded w.options, cleaned-length w.payload (cuts fill))
 
       outcome : joined s ≡ good c
-      unfolding joined cleanJoined at_start
+      unfolding joined clean_joined at_start
       outcome = pass _ _ _ _ (le-ltb 65536 (length s) l) (step _ _ e (ap at_start clean_is))
 
       pub no_room : {n : ℕ} (b : List ℕ) → n ≡ 24 + pad (length w.options) + length w.payload → length b < n → answer ROOM n 0 b ≡ joiner s b
@@ -184,7 +184,7 @@ module _ (s : List ℕ) (bs : Bytes s) (l : length s ≤ 65536) (f : Fragment) (
 
 module _ (r : Record) (o s : List ℕ) (b : List ℕ) (k m n : ℕ) (pay : List ℕ) (ek : k ≡ length o) (em : m ≡ pad k) (en : n ≡ 24 + pad k + length pay) (cut-it : Cuts pay) (room : n ≤ length b) where
   abbrev header : List ℕ
-  header = headerOf (m / 4) r.flags r.id.0 r.sequence n r.seconds r.nanos
+  header = header_of (m / 4) r.flags r.id.0 r.sequence n r.seconds r.nanos
 
   abbrev front : List ℕ
   front = header ++ padded o
@@ -192,8 +192,8 @@ module _ (r : Record) (o s : List ℕ) (b : List ℕ) (k m n : ℕ) (pay : List 
   front_long : length front ≡ 24 + m
   front_long = length-append header (padded o) ∙ omega (arith, length-padded o)
 
-  pub joined-raw : {b₁ b₂ b₃ b₄ : List ℕ} → b₁ ≡ sets b 0 header → b₂ ≡ sets b₁ 24 o → b₃ ≡ sets b₂ (24 + k) (replicate (m - k) 0) → b₄ ≡ sets b₃ (24 + m) pay → b₄ ≡ sets b 0 (front ++ pay)
-  joined-raw {b₁} {b₂} {b₃} {b₄} e f g h =
+  pub joined_raw : {b₁ b₂ b₃ b₄ : List ℕ} → b₁ ≡ sets b 0 header → b₂ ≡ sets b₁ 24 o → b₃ ≡ sets b₂ (24 + k) (replicate (m - k) 0) → b₄ ≡ sets b₃ (24 + m) pay → b₄ ≡ sets b 0 (front ++ pay)
+  joined_raw {b₁} {b₂} {b₃} {b₄} e f g h =
       let k₁ : b₂ ≡ sets b 0 (header ++ o) = f ∙ rw e (glue header o b 0 24 refl) in
       let k₂ : b₃ ≡ sets b 0 ((header ++ o) ++ replicate (m - k) 0) = g ∙ rw k₁ (glue (header ++ o) (replicate (m - k) 0) b 0 (24 + k) (omega (arith, length-append header o))) in
       let u : m - k ≡ pad (length o) - length o = omega arith in
@@ -216,49 +216,49 @@ module _ (r : Record) (o s : List ℕ) (b : List ℕ) (k m n : ℕ) (pay : List 
     gap_is : n - (24 + m) ≡ length pay
     gap_is = omega (arith, en, em)
 
-    pub pay-back : take (n - (24 + m)) (drop (24 + m) b₄) ≡ pay
-    pay-back = rw (gap_is, behind, take-append_seam)
+    pub pay_back : take (n - (24 + m)) (drop (24 + m) b₄) ≡ pay
+    pay_back = rw (gap_is, behind, take-append_seam)
 
-    pub joined-clean : (ys : List ℕ) → ys ≡ cleanedOf (cut 0 (take (n - (24 + m)) (drop (24 + m) b₄))) → put_mid (24 + m) (n - (24 + m)) b₄ ys ≡ sets b 0 (fragmentBytes (wholeBy r o pay))
+    pub joined-clean : (ys : List ℕ) → ys ≡ cleaned_of (cut 0 (take (n - (24 + m)) (drop (24 + m) b₄))) → put_mid (24 + m) (n - (24 + m)) b₄ ys ≡ sets b 0 (fragment_bytes (whole_by r o pay))
     joined-clean ys f =
-        let y : ys ≡ cleanedOf (cut 0 pay) = f ∙ ap (λ (x : List ℕ). cleanedOf (cut 0 x)) pay-back in
+        let y : ys ≡ cleaned_of (cut 0 pay) = f ∙ ap (λ (x : List ℕ). cleaned_of (cut 0 x)) pay_back in
         let t : take (24 + m) b₄ ≡ front = ap (take (24 + m)) fourth ∙ take_at front (pay ++ drop n b) (24 + m) front_long in
         let d : drop (n - (24 + m)) (drop (24 + m) b₄) ≡ drop n b = rw (gap_is, behind, drop-append_seam) in
-        let lc : length (cleanedOf (cut 0 pay)) ≡ length pay = cleaned-length pay cut-it in
-        let whole : front ++ cleanedOf (cut 0 pay) ≡ fragmentBytes (wholeBy r o pay) =
+        let lc : length (cleaned_of (cut 0 pay)) ≡ length pay = cleaned-length pay cut-it in
+        let whole : front ++ cleaned_of (cut 0 pay) ≡ fragment_bytes (whole_by r o pay) =
         let u : 24 + m + length pay ≡ n = omega (arith, en, em) in
         let v : r.flags + 0 ≡ r.flags = add-zero r.flags in
-        sym (ap (λ (x : ℕ). headerOf (m / 4) x r.id.0 r.sequence n r.seconds r.nanos ++ padded o ++ cleanedOf (cut 0 pay)) v)
-        ∙ sym (ap (λ (x : ℕ). headerOf (m / 4) (r.flags + 0) r.id.0 r.sequence x r.seconds r.nanos ++ padded o ++ cleanedOf (cut 0 pay)) u)
-        ∙ front_bytes r 0 o (cleanedOf (cut 0 pay)) m (length pay) (length-padded o ∙ sym (em ∙ ap pad ek)) lc in
-        let wl : length (fragmentBytes (wholeBy r o pay)) ≡ n = ap length (sym whole) ∙ length-append front (cleanedOf (cut 0 pay)) ∙ omega (arith, front_long, lc, en, em) in
-        let z : 0 + length (fragmentBytes (wholeBy r o pay)) ≡ n = omega (arith, wl) in
-        let last : sets b 0 (fragmentBytes (wholeBy r o pay)) ≡ fragmentBytes (wholeBy r o pay) ++ drop n b =
-        sets-eq (fragmentBytes (wholeBy r o pay)) b 0 (omega (arith, wl)) ∙ ap (λ (x : ℕ). fragmentBytes (wholeBy r o pay) ++ drop x b) z in
-        rw (t, y, d) (sym (append_assoc front (cleanedOf (cut 0 pay)) (drop n b)) ∙ ap (λ (x : List ℕ). x ++ drop n b) whole ∙ sym last)
+        sym (ap (λ (x : ℕ). header_of (m / 4) x r.id.0 r.sequence n r.seconds r.nanos ++ padded o ++ cleaned_of (cut 0 pay)) v)
+        ∙ sym (ap (λ (x : ℕ). header_of (m / 4) (r.flags + 0) r.id.0 r.sequence x r.seconds r.nanos ++ padded o ++ cleaned_of (cut 0 pay)) u)
+        ∙ front_bytes r 0 o (cleaned_of (cut 0 pay)) m (length pay) (length-padded o ∙ sym (em ∙ ap pad ek)) lc in
+        let wl : length (fragment_bytes (whole_by r o pay)) ≡ n = ap length (sym whole) ∙ length-append front (cleaned_of (cut 0 pay)) ∙ omega (arith, front_long, lc, en, em) in
+        let z : 0 + length (fragment_bytes (whole_by r o pay)) ≡ n = omega (arith, wl) in
+        let last : sets b 0 (fragment_bytes (whole_by r o pay)) ≡ fragment_bytes (whole_by r o pay) ++ drop n b =
+        sets-eq (fragment_bytes (whole_by r o pay)) b 0 (omega (arith, wl)) ∙ ap (λ (x : ℕ). fragment_bytes (whole_by r o pay) ++ drop x b) z in
+        rw (t, y, d) (sym (append_assoc front (cleaned_of (cut 0 pay)) (drop n b)) ∙ ap (λ (x : List ℕ). x ++ drop n b) whole ∙ sym last)
 
-any-length : (q : List ℕ) → oneIfAny q ≡ oneIf (length q)
-unfolding oneIf
+any-length : (q : List ℕ) → one_if_any q ≡ one_if (length q)
+unfolding one_if
 any-length [] = refl
-any-length (x ∷ q) = sym (rw (lt-ltb 0 (suc (length q)) (omega arith), oneIf))
+any-length (x ∷ q) = sym (rw (lt-ltb 0 (suc (length q)) (omega arith), one_if))
 
 -- ---- small ones
 
-pub one-some : (n : ℕ) → 0 < n → 1 ≡ oneIf n
-unfolding oneIf
-one-some n h = rw (lt-ltb 0 n h, oneIf)
+pub one-some : (n : ℕ) → 0 < n → 1 ≡ one_if n
+unfolding one_if
+one-some n h = rw (lt-ltb 0 n h, one_if)
 
-pub one_none : (n : ℕ) → n ≤ 0 → 0 ≡ oneIf n
-unfolding oneIf
-one_none n h = rw (le-ltb 0 n h, oneIf)
+pub one_none : (n : ℕ) → n ≤ 0 → 0 ≡ one_if n
+unfolding one_if
+one_none n h = rw (le-ltb 0 n h, one_if)
 
-pub kept_whole : (bits : ℕ) (run : List ℕ) → bits ≡ 0 → run ≡ keptBy bits run
-unfolding keptBy
-kept_whole bits run e = rw (eq-eqb bits WHOLE e, keptBy)
+pub kept_whole : (bits : ℕ) (run : List ℕ) → bits ≡ 0 → run ≡ kept_by bits run
+unfolding kept_by
+kept_whole bits run e = rw (eq-eqb bits WHOLE e, kept_by)
 
-pub kept-cut : (bits : ℕ) (run : List ℕ) → (bits ≡ 0 → ⊥) → withoutOffset (optionsOf run) ≡ keptBy bits run
-unfolding keptBy
-kept-cut bits run h = rw (ne_eqb bits WHOLE h, keptBy)
+pub kept-cut : (bits : ℕ) (run : List ℕ) → (bits ≡ 0 → ⊥) → without_offset (options_of run) ≡ kept_by bits run
+unfolding kept_by
+kept-cut bits run h = rw (ne_eqb bits WHOLE h, kept_by)
 
 pub part-all : (run : List ℕ) → part 0 (0 + length run) run ≡ run
 part-all run = let z : 0 + length run - 0 ≡ length run = omega arith in rw (z, take_all (length run) run (omega arith))
@@ -268,12 +268,12 @@ part-all run = let z : 0 + length run - 0 ≡ length run = omega arith in rw (z,
 pub record Opened (s : List ℕ) (g : Head) (n o : ℕ) (st : Passed) : Type 0 where
   pub first : Fragment
   pub more : List Fragment
-  pub read : fragmentsFrom none 0 0 s ≡ good (first ∷ more)
-  pub total : o ≡ length (payloadsOf (first ∷ more))
-  pub state : st.state ≡ scan 0 (payloadsOf (first ∷ more))
-  pub packages : st.packages ≡ starts 0 (payloadsOf (first ∷ more))
-  pub bits : first.bits ≡ fragmentBits g.flags
-  pub flags : first.flags ≡ otherBits g.flags
+  pub read : fragments_from none 0 0 s ≡ good (first ∷ more)
+  pub total : o ≡ length (payloads_of (first ∷ more))
+  pub state : st.state ≡ scan 0 (payloads_of (first ∷ more))
+  pub packages : st.packages ≡ starts 0 (payloads_of (first ∷ more))
+  pub bits : first.bits ≡ fragment_bits g.flags
+  pub flags : first.flags ≡ other_bits g.flags
   pub id : first.id ≡ g.id
   pub sequence : first.sequence ≡ g.sequence
   pub seconds : first.seconds ≡ g.seconds
@@ -285,14 +285,14 @@ opens : (s : List ℕ) (g : Head) (n o : ℕ) (st : Passed) → Bytes s → Join
 unfolding gathered
 opens s g n o st b j =
     let (fs, r, e) = stepped _ _ (sym j.all) in
-    by fs r (good-inj e)
+    by fs r (good_inj e)
   where
     d : Headed s 0 g n
     d = headed s 0 b j.small g n j.read
 
-    held_by : (f : Fragment) (k : List Fragment) (m : ℕ) → fragmentsFrom none 0 0 s ≡ good (f ∷ k) → fragment 0 s ≡ good (f, m) → o ≡ length (payloadsOf (f ∷ k)) → st.state ≡ scan 0 (payloadsOf (f ∷ k)) → st.packages ≡ starts 0 (payloadsOf (f ∷ k)) → Opened s g n o st
+    held_by : (f : Fragment) (k : List Fragment) (m : ℕ) → fragments_from none 0 0 s ≡ good (f ∷ k) → fragment 0 s ≡ good (f, m) → o ≡ length (payloads_of (f ∷ k)) → st.state ≡ scan 0 (payloads_of (f ∷ k)) → st.packages ≡ starts 0 (payloads_of (f ∷ k)) → Opened s g n o st
     held_by f k m r x y z c =
-        let zf : f ≡ d.held = ap (λ (p : Fragment × ℕ). p.0) (good-inj (sym x ∙ d.read)) in
+        let zf : f ≡ d.held = ap (λ (p : Fragment × ℕ). p.0) (good_inj (sym x ∙ d.read)) in
         record {
           first = f;
           more = k;
@@ -310,132 +310,132 @@ opens s g n o st b j =
           headed = d;
         }
 
-    by : (fs : List Fragment) → fragmentsFrom none 0 0 s ≡ good fs → ◌≡◌ {A = ℕ × ℕ × ℕ} (length (payloadsOf fs), scan 0 (payloadsOf fs), starts 0 (payloadsOf fs)) (o, st.state, st.packages) → Opened s g n o st
+    by : (fs : List Fragment) → fragments_from none 0 0 s ≡ good fs → ◌≡◌ {A = ℕ × ℕ × ℕ} (length (payloads_of fs), scan 0 (payloads_of fs), starts 0 (payloads_of fs)) (o, st.state, st.packages) → Opened s g n o st
     by fs r z =
         let (f, k, m, q, x, y) = taken_here none 0 s (omega (arith, d.most, d.start)) r in
         held_by f k m (r ∙ ap good (sym q)) x
-        (sym (ap (λ (p : ℕ × ℕ × ℕ). p.0) z) ∙ ap (λ (p : List Fragment). length (payloadsOf p)) (sym q))
-        (sym (ap (λ (p : ℕ × ℕ × ℕ). p.1) z) ∙ ap (λ (p : List Fragment). scan 0 (payloadsOf p)) (sym q))
-        (sym (ap (λ (p : ℕ × ℕ × ℕ). p.2) z) ∙ ap (λ (p : List Fragment). starts 0 (payloadsOf p)) (sym q))
+        (sym (ap (λ (p : ℕ × ℕ × ℕ). p.0) z) ∙ ap (λ (p : List Fragment). length (payloads_of p)) (sym q))
+        (sym (ap (λ (p : ℕ × ℕ × ℕ). p.1) z) ∙ ap (λ (p : List Fragment). scan 0 (payloads_of p)) (sym q))
+        (sym (ap (λ (p : ℕ × ℕ × ℕ). p.2) z) ∙ ap (λ (p : List Fragment). starts 0 (payloads_of p)) (sym q))
 
 -- the options that are kept say the same number
-kept-said : (bits : ℕ) (run : List ℕ) → WholeOptions run → countSaid (keptBy bits run) ≡ countSaid run
-unfolding keptBy
+kept-said : (bits : ℕ) (run : List ℕ) → WholeOptions run → count_said (kept_by bits run) ≡ count_said run
+unfolding kept_by
 kept-said bits run h = go (eqb bits WHOLE) refl
   where
-    go : (b : Bool) → eqb bits WHOLE ≡ b → countSaid (keptBy bits run) ≡ countSaid run
-    go true t = rw (t, keptBy)
-    go false t = rw (t, keptBy) (said-without (made_of run h.run) (once-of run h.run))
+    go : (b : Bool) → eqb bits WHOLE ≡ b → count_said (kept_by bits run) ≡ count_said run
+    go true t = rw (t, kept_by)
+    go false t = rw (t, kept_by) (said-without (made_of run h.run) (once_of run h.run))
 
-kept-is : (f : Fragment) → keptOptions f ≡ keptBy f.bits f.options
-unfolding keptOptions keptBy
+kept-is : (f : Fragment) → kept_options f ≡ kept_by f.bits f.options
+unfolding kept_options kept_by
 kept-is f = refl
 
 -- ---- the answers, by the first header and what was gathered
 
-module _ (s : List ℕ) (bs : Bytes s) (h : Header) (o : ℕ) (st : Passed) (j : Joinable s (headOfHeader h) h.run o st) where
-  pub op : Opened s (headOfHeader h) h.run o st
-  op = opens s (headOfHeader h) h.run o st bs j
+module _ (s : List ℕ) (bs : Bytes s) (h : Header) (o : ℕ) (st : Passed) (j : Joinable s (head_of_header h) h.run o st) where
+  pub op : Opened s (head_of_header h) h.run o st
+  op = opens s (head_of_header h) h.run o st bs j
 
   abbrev whole : Fragment
-  whole = joinedWith op.first op.more
+  whole = joined_with op.first op.more
 
-  payload-of : whole.payload ≡ payloadsOf (op.first ∷ op.more)
-  unfolding joinedWith
-  payload-of = refl
+  payload_of_lem : whole.payload ≡ payloads_of (op.first ∷ op.more)
+  unfolding joined_with
+  payload_of_lem = refl
 
-  pub payload-in : payloadsIn (fragmentsFrom none 0 0 s) ≡ whole.payload
-  unfolding payloadsIn joinedWith
-  payload-in = rw op.read
+  pub payload_in : payloads_in (fragments_from none 0 0 s) ≡ whole.payload
+  unfolding payloads_in joined_with
+  payload_in = rw op.read
 
-  pub options-of : whole.options ≡ keptBy (fragmentBits h.flags) (part 24 (24 + h.run) s)
-  unfolding joinedWith
-  options-of = kept-is op.first ∙ ap (λ (x : ℕ). keptBy x op.first.options) op.bits ∙ ap (keptBy (fragmentBits h.flags)) op.options
+  pub options_of_lem : whole.options ≡ kept_by (fragment_bits h.flags) (part 24 (24 + h.run) s)
+  unfolding joined_with
+  options_of_lem = kept-is op.first ∙ ap (λ (x : ℕ). kept_by x op.first.options) op.bits ∙ ap (kept_by (fragment_bits h.flags)) op.options
 
-  standard-of : standardBit whole.flags ≡ h.flags / 128 % 2
-  unfolding joinedWith
-  standard-of = rw op.flags (standard-bit h.flags)
+  standard_of : standard_bit whole.flags ≡ h.flags / 128 % 2
+  unfolding joined_with
+  standard_of = rw op.flags (standard-bit h.flags)
 
-  any_of : oneIfAny whole.payload ≡ oneIf o
-  any_of = ap oneIfAny payload-of ∙ any-length (payloadsOf (op.first ∷ op.more)) ∙ ap oneIf (sym op.total)
+  any_of : one_if_any whole.payload ≡ one_if o
+  any_of = ap one_if_any payload_of_lem ∙ any-length (payloads_of (op.first ∷ op.more)) ∙ ap one_if (sym op.total)
 
-  numbers_of : Numbers (recordWhole h) whole
-  unfolding joinedWith
+  numbers_of : Numbers (record_whole h) whole
+  unfolding joined_with
   numbers_of = (sym op.flags, sym op.id, sym op.sequence, sym op.seconds, sym op.nanos)
 
-  state-of : scan 0 whole.payload ≡ st.state
-  state-of = rw payload-of (sym op.state)
+  state_of_lem : scan 0 whole.payload ≡ st.state
+  state_of_lem = rw payload_of_lem (sym op.state)
 
   pub run-whole-options : WholeOptions (part 24 (24 + h.run) s)
-  run-whole-options = first-options s (headOfHeader h) h.run op.headed
+  run-whole-options = first-options s (head_of_header h) h.run op.headed
 
   -- the number that the first run says is that of the kept options
-  said_of : differs (countSaid whole.options) (starts 0 whole.payload) ≡ differs (countSaid (part 24 (24 + h.run) s)) st.packages
+  said_of : differs (count_said whole.options) (starts 0 whole.payload) ≡ differs (count_said (part 24 (24 + h.run) s)) st.packages
   said_of =
-      ap (λ (x : List ℕ). differs (countSaid x) (starts 0 whole.payload)) options-of
-      ∙ rw (kept-said (fragmentBits h.flags) (part 24 (24 + h.run) s) run-whole-options, payload-of, ← op.packages)
+      ap (λ (x : List ℕ). differs (count_said x) (starts 0 whole.payload)) options_of_lem
+      ∙ rw (kept-said (fragment_bits h.flags) (part 24 (24 + h.run) s) run-whole-options, payload_of_lem, ← op.packages)
 
   pub run-few : length (part 24 (24 + h.run) s) ≤ 60
   run-few = let d = op.headed in omega (arith, d.run, d.few, length-take (24 + h.run - 24) (drop 24 s))
 
-  pub kept-few : length (keptBy (fragmentBits h.flags) (part 24 (24 + h.run) s)) ≤ 60
-  kept-few = rw (← options-of) (whole-valid op.first op.more s j.small (reads_all none 0 0 s bs j.small op.read)).short
+  pub kept-few : length (kept_by (fragment_bits h.flags) (part 24 (24 + h.run) s)) ≤ 60
+  kept-few = rw (← options_of_lem) (whole_valid op.first op.more s j.small (reads_all none 0 0 s bs j.small op.read)).short
 
-  pub payload-few : length (payloadsIn (fragmentsFrom none 0 0 s)) < 65536
+  pub payload-few : length (payloads_in (fragments_from none 0 0 s)) < 65536
   payload-few =
       let all = reads_all none 0 0 s bs j.small op.read in
-      rw payload-in (omega (arith, length-fragment whole (whole-valid op.first op.more s j.small all) [], whole-short op.first op.more s j.small all, j.small))
+      rw payload_in (omega (arith, length-fragment whole (whole_valid op.first op.more s j.small all) [], whole-short op.first op.more s j.small all, j.small))
 
-  pub payload-long : o ≡ length (payloadsIn (fragmentsFrom none 0 0 s))
-  payload-long = op.total ∙ ap length (sym payload-of) ∙ ap length (sym payload-in)
+  pub payload-long : o ≡ length (payloads_in (fragments_from none 0 0 s))
+  payload-long = op.total ∙ ap length (sym payload_of_lem) ∙ ap length (sym payload_in)
 
-  pub end-standard : (b : List ℕ) → (h.flags / 128 % 2 ≡ oneIf o → ⊥) → answer STANDARD 0 0 b ≡ joiner s b
-  end-standard b n = not-standard s bs j.small op.first op.more op.read b (λ z. n (sym standard-of ∙ z ∙ any_of))
+  pub end-standard : (b : List ℕ) → (h.flags / 128 % 2 ≡ one_if o → ⊥) → answer STANDARD 0 0 b ≡ joiner s b
+  end-standard b n = not_standard s bs j.small op.first op.more op.read b (λ z. n (sym standard_of ∙ z ∙ any_of))
 
-  module _ (std : h.flags / 128 % 2 ≡ oneIf o) where
-    std-of : standardBit whole.flags ≡ oneIfAny whole.payload
-    std-of = standard-of ∙ std ∙ sym any_of
+  module _ (std : h.flags / 128 % 2 ≡ one_if o) where
+    std_of : standard_bit whole.flags ≡ one_if_any whole.payload
+    std_of = standard_of ∙ std ∙ sym any_of
 
-    pub end-package : (b : List ℕ) → (st.state ≡ 0 → ⊥) → answer PACKAGE 0 0 b ≡ joiner s b
-    end-package b n = not-packages s bs j.small op.first op.more op.read std-of b (λ z. n (sym state-of ∙ z))
+    pub end_package : (b : List ℕ) → (st.state ≡ 0 → ⊥) → answer PACKAGE 0 0 b ≡ joiner s b
+    end_package b n = not_packages s bs j.small op.first op.more op.read std_of b (λ z. n (sym state_of_lem ∙ z))
 
     module _ (zero-state : st.state ≡ 0) where
       fills : scan 0 whole.payload ≡ 0
-      fills = state-of ∙ zero-state
+      fills = state_of_lem ∙ zero-state
 
-      pub end-count : (b : List ℕ) → differs (countSaid (part 24 (24 + h.run) s)) st.packages ≡ true → answer COUNT 0 0 b ≡ joiner s b
-      end-count b n = not-counted s bs j.small op.first op.more op.read std-of fills b (said_of ∙ n)
+      pub end-count : (b : List ℕ) → differs (count_said (part 24 (24 + h.run) s)) st.packages ≡ true → answer COUNT 0 0 b ≡ joiner s b
+      end-count b n = not_counted s bs j.small op.first op.more op.read std_of fills b (said_of ∙ n)
 
-      pub cuts-of : Cuts (payloadsIn (fragmentsFrom none 0 0 s))
-      cuts-of = rw payload-in (cuts s bs j.small op.first op.more op.read std-of fills)
+      pub cuts_of : Cuts (payloads_in (fragments_from none 0 0 s))
+      cuts_of = rw payload_in (cuts s bs j.small op.first op.more op.read std_of fills)
 
-      size-of : {k m n : ℕ} → k ≡ length (keptBy (fragmentBits h.flags) (part 24 (24 + h.run) s)) → m ≡ pad k → n ≡ 24 + m + o → n ≡ 24 + pad (length whole.options) + length whole.payload
-      size-of {k} {m} {n} x y z =
-          let u : k ≡ length whole.options = x ∙ ap length (sym options-of) in
-          let v : o ≡ length whole.payload = op.total ∙ ap length (sym payload-of) in
+      size_of_lem : {k m n : ℕ} → k ≡ length (kept_by (fragment_bits h.flags) (part 24 (24 + h.run) s)) → m ≡ pad k → n ≡ 24 + m + o → n ≡ 24 + pad (length whole.options) + length whole.payload
+      size_of_lem {k} {m} {n} x y z =
+          let u : k ≡ length whole.options = x ∙ ap length (sym options_of_lem) in
+          let v : o ≡ length whole.payload = op.total ∙ ap length (sym payload_of_lem) in
           omega arith
 
-      pub storable : {k m n : ℕ} (b : List ℕ) → k ≡ length (keptBy (fragmentBits h.flags) (part 24 (24 + h.run) s)) → m ≡ pad k → n ≡ 24 + m + o → n ≤ length b
-          → Storable b (fragmentBits h.flags) (part 24 (24 + h.run) s) s k n
+      pub storable : {k m n : ℕ} (b : List ℕ) → k ≡ length (kept_by (fragment_bits h.flags) (part 24 (24 + h.run) s)) → m ≡ pad k → n ≡ 24 + m + o → n ≤ length b
+          → Storable b (fragment_bits h.flags) (part 24 (24 + h.run) s) s k n
       storable {k} {m} {n} b x y z l = record {
         kept = x;
         short = run-few;
         less = rw x kept-few;
         input = j.small;
         payload = payload-few;
-        cuts = cuts-of;
+        cuts = cuts_of;
         size = omega (arith, payload-long);
         room = l;
       }
 
-      pub end-room : {k m n : ℕ} (b : List ℕ) → k ≡ length (keptBy (fragmentBits h.flags) (part 24 (24 + h.run) s)) → m ≡ pad k → n ≡ 24 + m + o → length b < n
-          → differs (countSaid (part 24 (24 + h.run) s)) st.packages ≡ false → answer ROOM n 0 b ≡ joiner s b
-      end-room b x y z l u = no_room s bs j.small op.first op.more op.read std-of (recordWhole h) numbers_of fills (said_of ∙ u) b (size-of x y z) l
+      pub end-room : {k m n : ℕ} (b : List ℕ) → k ≡ length (kept_by (fragment_bits h.flags) (part 24 (24 + h.run) s)) → m ≡ pad k → n ≡ 24 + m + o → length b < n
+          → differs (count_said (part 24 (24 + h.run) s)) st.packages ≡ false → answer ROOM n 0 b ≡ joiner s b
+      end-room b x y z l u = no_room s bs j.small op.first op.more op.read std_of (record_whole h) numbers_of fills (said_of ∙ u) b (size_of_lem x y z) l
 
-      pub end-stored : {k m n : ℕ} (b b' : List ℕ) → k ≡ length (keptBy (fragmentBits h.flags) (part 24 (24 + h.run) s)) → m ≡ pad k → n ≡ 24 + m + o → n ≤ length b
-          → b' ≡ sets b 0 (fragmentBytes (wholeBy (recordWhole h) (keptBy (fragmentBits h.flags) (part 24 (24 + h.run) s)) (payloadsIn (fragmentsFrom none 0 0 s)))) → differs (countSaid (part 24 (24 + h.run) s)) st.packages ≡ false → answer 0 0 n b' ≡ joiner s b
+      pub end-stored : {k m n : ℕ} (b b' : List ℕ) → k ≡ length (kept_by (fragment_bits h.flags) (part 24 (24 + h.run) s)) → m ≡ pad k → n ≡ 24 + m + o → n ≤ length b
+          → b' ≡ sets b 0 (fragment_bytes (whole_by (record_whole h) (kept_by (fragment_bits h.flags) (part 24 (24 + h.run) s)) (payloads_in (fragments_from none 0 0 s)))) → differs (count_said (part 24 (24 + h.run) s)) st.packages ≡ false → answer 0 0 n b' ≡ joiner s b
       end-stored b b' x y z l e u =
-          all-stored s bs j.small op.first op.more op.read std-of (recordWhole h) numbers_of fills (said_of ∙ u) b b' (size-of x y z) l (e ∙ ap (λ (p : List ℕ). sets b 0 (fragmentBytes (wholeBy (recordWhole h) p (payloadsIn (fragmentsFrom none 0 0 s))))) (sym options-of) ∙ ap (λ (p : List ℕ). sets b 0 (fragmentBytes (wholeBy (recordWhole h) whole.options p))) payload-in)
+          all-stored s bs j.small op.first op.more op.read std_of (record_whole h) numbers_of fills (said_of ∙ u) b b' (size_of_lem x y z) l (e ∙ ap (λ (p : List ℕ). sets b 0 (fragment_bytes (whole_by (record_whole h) p (payloads_in (fragments_from none 0 0 s))))) (sym options_of_lem) ∙ ap (λ (p : List ℕ). sets b 0 (fragment_bytes (whole_by (record_whole h) whole.options p))) payload_in)
 
 -- ---- refusals before
 
@@ -443,12 +443,12 @@ pub too_large : (s b : List ℕ) → 65536 < length s → answer LARGE 65536 0 b
 unfolding joiner joined stored
 too_large s b l = sym (ap (stored b) (stop _ _ (halt _ _ _ _ (lt-ltb 65536 (length s) l))))
 
-pub not-gathered : (s b : List ℕ) {n p : ℕ} → length s ≤ 65536 → bad n p ≡ gathered s → answer n p 0 b ≡ joiner s b
+pub not_gathered : (s b : List ℕ) {n p : ℕ} → length s ≤ 65536 → bad n p ≡ gathered s → answer n p 0 b ≡ joiner s b
 unfolding joiner joined stored gathered
-not-gathered s b {n} {p} l e = sym (ap (stored b) (stop _ _ (pass _ _ _ _ (le-ltb 65536 (length s) l) (stop _ _ (refused-only _ _ (sym e))))))
+not_gathered s b {n} {p} l e = sym (ap (stored b) (stop _ _ (pass _ _ _ _ (le-ltb 65536 (length s) l) (stop _ _ (refused-only _ _ (sym e))))))
 
 pub never : {A : Type 0} (s : List ℕ) {n p o st k : ℕ} → 1 ≤ length s → bad n p ≡ header_at s 0 → good (o, st, k) ≡ gathered s → A
-never s l e f = absurd (good≢bad (first-stopped s l e ∙ sym f))
+never s l e f = absurd (good≢bad (first_stopped s l e ∙ sym f))
 
 pub some-input : (s : List ℕ) {o st k : ℕ} → good (o, st, k) ≡ gathered s → 1 ≤ length s
 some-input [] e = absurd (good≢bad (nothing [] refl ∙ sym e))

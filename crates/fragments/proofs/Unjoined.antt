@@ -13,16 +13,16 @@ use lib.Seq.{take-append_seam, drop-append_seam, length-take-le, take-length, dr
 use Rattle.rules.specs.Outcome.{Outcome, good, bad, ◌>>=◌, ◌∷>◌}
 use Rattle.refusal.specs.Numbers.{GAP}
 use Rattle.rules.specs.Items.{items, All, all_nil, all_cons}
-use Rattle.rules.specs.Message.{mostBytes, head, payloadStart, checksOneToSix, optionRunLength}
-use Rattle.rules.proofs.Outcomes.{pass, halt, step, stop, stepped, fronted, front_of, came-after, passed, good-inj, bad-inj, good≢bad, never_true, refused-at, refused-step, refused-front}
+use Rattle.rules.specs.Message.{most_bytes, head, payload_start, checks_one_to_six, option_run_length}
+use Rattle.rules.proofs.Outcomes.{pass, halt, step, stop, stepped, fronted, front_of_lem, came_after, passed, good_inj, bad_inj, good≢bad, never_true, refused-at, refused-step, refused-front}
 use Rattle.rules.proofs.Alone.{part-append, head-append}
 use Rattle.rules.proofs.Loops.{◌++>◌}
 use Rattle.rules.proofs.Passed.{sound}
-use Rattle.fragments.specs.Fragment.{Fragment, fragmentOf, fragment}
-use Rattle.fragments.specs.Joining.{inPlace, complete, fragmentsFrom, at_start, cleanJoined, joined}
-use Rattle.fragments.specs.Claims.{WholeSet, Continued, InOrderTo, JoinRefused, large, bad-fragment, gap, last-missing, bad-whole}
-use Rattle.fragments.proofs.From.{from-gap, from-stop, from_end, from-missing}
-use Rattle.fragments.proofs.Order.{Placed, done, more, set-placed, Few, placed-set, Chain, link-none, link, chain-placed, placed-chain, chain-few, continued, not-continued, bits-few, all-few}
+use Rattle.fragments.specs.Fragment.{Fragment, fragment_of, fragment}
+use Rattle.fragments.specs.Joining.{in_place, complete, fragments_from, at_start, clean_joined, joined}
+use Rattle.fragments.specs.Claims.{WholeSet, Continued, InOrderTo, JoinRefused, large, bad-fragment, gap, last_missing, bad-whole}
+use Rattle.fragments.proofs.From.{from-gap, from_stop, from_end, from_missing}
+use Rattle.fragments.proofs.Order.{Placed, done, more, set-placed, Few, placed-set, Chain, link_none, link, chain_placed, placed_chain, chain_few, continued, not_continued, bits-few, all-few}
 use Rattle.fragments.proofs.Gathering.{short}
 
 -- ---- a fragment is read by its own bytes: what follows it changes nothing
@@ -31,43 +31,43 @@ use Rattle.fragments.proofs.Gathering.{short}
 record Inside (s : List ℕ) (n : ℕ) : Type 0 where
   pub header : 24 ≤ length s
   pub size : (head s).size ≡ n
-  pub start : payloadStart (head s) ≤ n
+  pub start : payload_start (head s) ≤ n
   pub most : n ≤ length s
 
 inside : (p : ℕ) (s : List ℕ) (f : Fragment) (n : ℕ) → fragment p s ≡ good (f, n) → Inside s n
-unfolding fragment optionRunLength
+unfolding fragment option_run_length
 inside p s f n e =
     let (k, o, e) = stepped _ _ e in
-    let (c, o) = came-after _ _ o in
+    let (c, o) = came_after _ _ o in
     let w = sound p s (head s) c in
-    subst (Inside s) (ap (λ (r : Fragment × ℕ). r.1) (good-inj e)) (record { header = w.long; size = refl; start = w.least; most = w.most })
+    subst (Inside s) (ap (λ (r : Fragment × ℕ). r.1) (good_inj e)) (record { header = w.long; size = refl; start = w.least; most = w.most })
 
 module _ (p : ℕ) (s t : List ℕ) {n : ℕ} (w : Inside s n) where
-  same-run : optionRunLength p (s ++ t) (head s) ≡ optionRunLength p s (head s)
-  unfolding optionRunLength checksOneToSix
-  same-run =
+  same_run : option_run_length p (s ++ t) (head s) ≡ option_run_length p s (head s)
+  unfolding option_run_length checks_one_to_six
+  same_run =
       rw (
         le-ltb (length (s ++ t)) 24 (omega (arith, length-append s t, w.header)),
         le-ltb (length s) 24 w.header,
         le-ltb (length (s ++ t)) (head s).size (omega (arith, length-append s t, w.size, w.most)),
         le-ltb (length s) (head s).size (omega (arith, w.size, w.most)),
-        part-append 24 (payloadStart (head s)) s t w.header (omega (arith, w.start, w.most)),
+        part-append 24 (payload_start (head s)) s t w.header (omega (arith, w.start, w.most)),
       )
 
-  same-fragment : (k : ℕ) → k ≤ 4 * (head s).words → fragmentOf (s ++ t) (head s) k ≡ fragmentOf s (head s) k
-  unfolding fragmentOf
-  same-fragment k l =
+  same_fragment : (k : ℕ) → k ≤ 4 * (head s).words → fragment_of (s ++ t) (head s) k ≡ fragment_of s (head s) k
+  unfolding fragment_of
+  same_fragment k l =
       rw (
         part-append 24 (24 + k) s t w.header (omega (arith, w.start, w.most)),
-        part-append (payloadStart (head s)) (head s).size s t (omega (arith, w.start, w.most)) (omega (arith, w.size, w.most)),
+        part-append (payload_start (head s)) (head s).size s t (omega (arith, w.start, w.most)) (omega (arith, w.size, w.most)),
       )
 
   beside : fragment p (s ++ t) ≡ fragment p s
   unfolding fragment ◌>>=◌
-  beside = rw (head-append s t w.header, same-run) (go (optionRunLength p s (head s)) refl)
+  beside = rw (head-append s t w.header, same_run) (go (option_run_length p s (head s)) refl)
     where
-      go : (o : Outcome ℕ) → optionRunLength p s (head s) ≡ o → ◌>>=◌ {B = Fragment × ℕ} o (λ k. good (fragmentOf (s ++ t) (head s) k, (head s).size)) ≡ (o >>= λ k. good (fragmentOf s (head s) k, (head s).size))
-      go (good k) e = ap (λ (f : Fragment). good (f, (head s).size)) (same-fragment k (short p s (head s) k e))
+      go : (o : Outcome ℕ) → option_run_length p s (head s) ≡ o → ◌>>=◌ {B = Fragment × ℕ} o (λ k. good (fragment_of (s ++ t) (head s) k, (head s).size)) ≡ (o >>= λ k. good (fragment_of s (head s) k, (head s).size))
+      go (good k) e = ap (λ (f : Fragment). good (f, (head s).size)) (same_fragment k (short p s (head s) k e))
       go (bad k q) e = refl
 
 -- so it is read without them
@@ -82,7 +82,7 @@ alone p s t f n l e =
 -- behind the fragment e, s stands at place p
 data Stops (e : Option Fragment) (p : ℕ) : List ℕ → ℕ → ℕ → Type 0 where
   unread : {s : List ℕ} {n q : ℕ} → 1 ≤ length s → fragment p s ≡ bad n q → Stops e p s n q
-  apart : {s : List ℕ} {f : Fragment} {n : ℕ} → fragment p s ≡ good (f, n) → inPlace e f ≡ false → Stops e p s GAP p
+  apart : {s : List ℕ} {f : Fragment} {n : ℕ} → fragment p s ≡ good (f, n) → in_place e f ≡ false → Stops e p s GAP p
   missing : complete e ≡ false → Stops e p [] GAP p
 
 -- s stands at place p behind the fragment b, and its first k bytes belong to b: the fragments of its front are in order, and what follows them stops the reading
@@ -99,14 +99,14 @@ record Stopped (b : Option Fragment) (k p : ℕ) (s : List ℕ) (n r : ℕ) : Ty
   pub there : place ≡ p + length front
   pub stops : Stops last place rest n r
 
-stopped-here : (b : Option Fragment) (k p : ℕ) (s : List ℕ) {n r : ℕ} → k ≤ 0 → Stops b p s n r → Stopped b k p s n r
+stopped_here : (b : Option Fragment) (k p : ℕ) (s : List ℕ) {n r : ℕ} → k ≤ 0 → Stops b p s n r → Stopped b k p s n r
 unfolding items
-stopped-here b k p s l w = record { front = []; rest = s; split = refl; long = l; fragments = []; last = b; read = refl; chain = link-none; place = p; there = omega arith; stops = w }
+stopped_here b k p s l w = record { front = []; rest = s; split = refl; long = l; fragments = []; last = b; read = refl; chain = link_none; place = p; there = omega arith; stops = w }
 
 -- one byte more in front, and with it a fragment or none
 module _ (b d : Option Fragment) (k m p x : ℕ) (s : List ℕ) {n r : ℕ} (w : Stopped d m (suc p) s n r) where
-  stopped-on : (fs : List Fragment) → k ≤ suc (length w.front) → items fragment k p (x ∷ w.front) ≡ good fs → Chain b fs w.last → Stopped b k p (x ∷ s) n r
-  stopped-on fs l e c = record {
+  stopped_on : (fs : List Fragment) → k ≤ suc (length w.front) → items fragment k p (x ∷ w.front) ≡ good fs → Chain b fs w.last → Stopped b k p (x ∷ s) n r
+  stopped_on fs l e c = record {
     front = x ∷ w.front;
     rest = w.rest;
     split = rw w.split;
@@ -120,42 +120,42 @@ module _ (b d : Option Fragment) (k m p x : ℕ) (s : List ℕ) {n r : ℕ} (w :
     stops = w.stops;
   }
 
-stopped-skip : (b : Option Fragment) (k p x : ℕ) (s : List ℕ) {n r : ℕ} → Stopped b k (suc p) s n r → Stopped b (suc k) p (x ∷ s) n r
+stopped_skip : (b : Option Fragment) (k p x : ℕ) (s : List ℕ) {n r : ℕ} → Stopped b k (suc p) s n r → Stopped b (suc k) p (x ∷ s) n r
 unfolding items
-stopped-skip b k p x s w = stopped-on b b (suc k) k p x s w w.fragments (omega (arith, w.long)) w.read w.chain
+stopped_skip b k p x s w = stopped_on b b (suc k) k p x s w w.fragments (omega (arith, w.long)) w.read w.chain
 
-stopped-next : (b : Option Fragment) (p x : ℕ) (s : List ℕ) (f : Fragment) (m : ℕ) {n r : ℕ} → fragment p (x ∷ s) ≡ good (f, m) → inPlace b f ≡ true
+stopped_next : (b : Option Fragment) (p x : ℕ) (s : List ℕ) (f : Fragment) (m : ℕ) {n r : ℕ} → fragment p (x ∷ s) ≡ good (f, m) → in_place b f ≡ true
     → Stopped (some f) (m - 1) (suc p) s n r → Stopped b 0 p (x ∷ s) n r
 unfolding items
-stopped-next b p x s f m e i w =
+stopped_next b p x s f m e i w =
     let a = alone p (x ∷ w.front) w.rest f m (omega (arith, w.long)) (rw w.split e) in
-    stopped-on b (some f) 0 (m - 1) p x s w (f ∷ w.fragments) (omega arith) (step _ _ a (front_of _ _ w.read)) (link i w.chain)
+    stopped_on b (some f) 0 (m - 1) p x s w (f ∷ w.fragments) (omega arith) (step _ _ a (front_of_lem _ _ w.read)) (link i w.chain)
 
-stopped : (b : Option Fragment) (k p : ℕ) (s : List ℕ) {n r : ℕ} → k ≤ length s → fragmentsFrom b k p s ≡ bad n r → Stopped b k p s n r
-unfolding fragmentsFrom
+stopped : (b : Option Fragment) (k p : ℕ) (s : List ℕ) {n r : ℕ} → k ≤ length s → fragments_from b k p s ≡ bad n r → Stopped b k p s n r
+unfolding fragments_from
 stopped b k p [] {n} {r} l e = ⊎_elim (λ z. go z) (λ z. absurd (good≢bad (sym z.1))) (refused-at _ _ _ _ e)
   where
     go : (not (complete b) ≡ true) × (GAP ≡ n) × (p ≡ r) → Stopped b k p [] n r
-    go (t, a, c) = rw (← a, ← c) (stopped-here b k p [] l (missing (not-true _ t)))
-stopped b (suc k) p (x ∷ s) l e = stopped-skip b k p x s (stopped b k (suc p) s (omega arith) e)
+    go (t, a, c) = rw (← a, ← c) (stopped_here b k p [] l (missing (not-true _ t)))
+stopped b (suc k) p (x ∷ s) l e = stopped_skip b k p x s (stopped b k (suc p) s (omega arith) e)
 stopped b zero p (x ∷ s) {n} {r} l e =
     ⊎_elim
-    (λ z. stopped-here b 0 p (x ∷ s) (omega arith) (unread (omega arith) z))
+    (λ z. stopped_here b 0 p (x ∷ s) (omega arith) (unread (omega arith) z))
     (λ z. ⊎_elim
     (λ y. out z.0.0 z.0.1 z.1 y)
-    (λ y. stopped-next b p x s z.0.0 z.0.1 z.1 (not-false _ y.0) (stopped (some z.0.0) (z.0.1 - 1) (suc p) s (omega (arith, (inside p (x ∷ s) z.0.0 z.0.1 z.1).most)) (refused-front _ _ y.1)))
+    (λ y. stopped_next b p x s z.0.0 z.0.1 z.1 (not-false _ y.0) (stopped (some z.0.0) (z.0.1 - 1) (suc p) s (omega (arith, (inside p (x ∷ s) z.0.0 z.0.1 z.1).most)) (refused-front _ _ y.1)))
     (refused-at _ _ _ _ z.2))
     (refused-step _ _ e)
   where
-    out : (f : Fragment) (m : ℕ) → fragment p (x ∷ s) ≡ good (f, m) → (not (inPlace b f) ≡ true) × (GAP ≡ n) × (p ≡ r) → Stopped b 0 p (x ∷ s) n r
-    out f m g (t, a, c) = rw (← a, ← c) (stopped-here b 0 p (x ∷ s) (omega arith) (apart g (not-true _ t)))
+    out : (f : Fragment) (m : ℕ) → fragment p (x ∷ s) ≡ good (f, m) → (not (in_place b f) ≡ true) × (GAP ≡ n) × (p ≡ r) → Stopped b 0 p (x ∷ s) n r
+    out f m g (t, a, c) = rw (← a, ← c) (stopped_here b 0 p (x ∷ s) (omega arith) (apart g (not-true _ t)))
 
 -- where nothing stops it, the fragments are read so one by one, and each is in its place
-in_order : (b : Option Fragment) (k p : ℕ) (s : List ℕ) {fs : List Fragment} → fragmentsFrom b k p s ≡ good fs → (items fragment k p s ≡ good fs) × Placed b fs
-unfolding fragmentsFrom items
+in_order : (b : Option Fragment) (k p : ℕ) (s : List ℕ) {fs : List Fragment} → fragments_from b k p s ≡ good fs → (items fragment k p s ≡ good fs) × Placed b fs
+unfolding fragments_from items
 in_order b k p [] {fs} e =
     let (t, e) = passed _ _ _ _ e in
-    let q : [] ≡ fs = good-inj e in
+    let q : [] ≡ fs = good_inj e in
     rw (← q) (refl, done (not-false _ t))
 in_order b (suc k) p (x ∷ s) e = in_order b k (suc p) s e
 in_order b zero p (x ∷ s) {fs} e =
@@ -163,29 +163,29 @@ in_order b zero p (x ∷ s) {fs} e =
     let (t, e) = passed _ _ _ _ e in
     let (l, i, m) = fronted _ _ e in
     let (j, w) = in_order (some r.0) (r.1 - 1) (suc p) s i in
-    rw (← m) (step _ _ g (front_of _ _ j), more (not-false _ t) w)
+    rw (← m) (step _ _ g (front_of_lem _ _ j), more (not-false _ t) w)
 
 -- ---- the reading goes on behind fragments in order
 
-unlink : {b e : Option Fragment} {f : Fragment} {fs : List Fragment} → Chain b (f ∷ fs) e → (inPlace b f ≡ true) × Chain (some f) fs e
+unlink : {b e : Option Fragment} {f : Fragment} {fs : List Fragment} → Chain b (f ∷ fs) e → (in_place b f ≡ true) × Chain (some f) fs e
 unlink (link i c) = (i, c)
 
-in-front : {A : Type 0} (a : A) (l : List A) (o : Outcome (List A)) → (a ∷> (l ++> o)) ≡ ((a ∷ l) ++> o)
+in_front : {A : Type 0} (a : A) (l : List A) (o : Outcome (List A)) → (a ∷> (l ++> o)) ≡ ((a ∷ l) ++> o)
 unfolding ◌∷>◌ ◌++>◌
-in-front a l (good m) = refl
-in-front a l (bad n p) = refl
+in_front a l (good m) = refl
+in_front a l (bad n p) = refl
 
-none-in-front : {A : Type 0} (o : Outcome (List A)) → o ≡ ([] ++> o)
+none_in_front : {A : Type 0} (o : Outcome (List A)) → o ≡ ([] ++> o)
 unfolding ◌++>◌
-none-in-front (good l) = refl
-none-in-front (bad n p) = refl
+none_in_front (good l) = refl
+none_in_front (bad n p) = refl
 
 goes_on : (b : Option Fragment) (k p : ℕ) (s t : List ℕ) {fs : List Fragment} {e : Option Fragment} → k ≤ length s → items fragment k p s ≡ good fs → Chain b fs e
-    → fragmentsFrom b k p (s ++ t) ≡ (fs ++> fragmentsFrom e 0 (p + length s) t)
-unfolding items fragmentsFrom
+    → fragments_from b k p (s ++ t) ≡ (fs ++> fragments_from e 0 (p + length s) t)
+unfolding items fragments_from
 goes_on b (suc k) p [] t l r c = absurd (omega arith)
-goes_on b zero p [] t l r link-none = rw add-zero (none-in-front (fragmentsFrom b 0 p t))
-goes_on b zero p [] t l r (link {f = f} {fs = fs} i c) = let z : ◌≡◌ {A = List Fragment} [] (f ∷ fs) = good-inj r in cc
+goes_on b zero p [] t l r link_none = rw add-zero (none_in_front (fragments_from b 0 p t))
+goes_on b zero p [] t l r (link {f = f} {fs = fs} i c) = let z : ◌≡◌ {A = List Fragment} [] (f ∷ fs) = good_inj r in cc
 goes_on b (suc k) p (x ∷ s) t l r c = rw (add-suc, ← suc-add) (goes_on b k (suc p) s t (omega arith) r c)
 goes_on b zero p (x ∷ s) t {fs} {e} l r c =
     let (a, g, d) = stepped _ _ r in
@@ -193,21 +193,21 @@ goes_on b zero p (x ∷ s) t {fs} {e} l r c =
     let (j, c) = unlink (subst (λ (l : List Fragment). Chain b l e) (sym m) c) in
     let w = inside p (x ∷ s) a.0 a.1 g in
     rw (← m, add-suc, ← suc-add)
-    (step _ _ (beside p (x ∷ s) t w ∙ g) (pass _ _ _ _ (rw j) (ap (λ (o : Outcome (List Fragment)). a.0 ∷> o) (goes_on (some a.0) (a.1 - 1) (suc p) s t (omega (arith, w.most)) i c) ∙ in-front a.0 gs _)))
+    (step _ _ (beside p (x ∷ s) t w ∙ g) (pass _ _ _ _ (rw j) (ap (λ (o : Outcome (List Fragment)). a.0 ∷> o) (goes_on (some a.0) (a.1 - 1) (suc p) s t (omega (arith, w.most)) i c) ∙ in_front a.0 gs _)))
 
 -- ---- what is continued is a chain
 
-chain-of : {b : Option Fragment} (fs rest : List Fragment) → Placed b (fs ++ rest) → (e : Option Fragment) × Chain b fs e
-chain-of {b} [] rest w = (b, link-none)
-chain-of (f ∷ fs) rest (more i w) = let (e, c) = chain-of fs rest w in (e, link i c)
+chain_of : {b : Option Fragment} (fs rest : List Fragment) → Placed b (fs ++ rest) → (e : Option Fragment) × Chain b fs e
+chain_of {b} [] rest w = (b, link_none)
+chain_of (f ∷ fs) rest (more i w) = let (e, c) = chain_of fs rest w in (e, link i c)
 
-chain_more : {b e : Option Fragment} {fs : List Fragment} (f : Fragment) → Chain b fs e → inPlace e f ≡ true → Chain b (fs ++ (f ∷ [])) (some f)
-chain_more f link-none i = link i link-none
+chain_more : {b e : Option Fragment} {fs : List Fragment} (f : Fragment) → Chain b fs e → in_place e f ≡ true → Chain b (fs ++ (f ∷ [])) (some f)
+chain_more f link_none i = link i link_none
 chain_more f (link j c) i = link j (chain_more f c i)
 
 -- of a whole set the last is there
 set-complete : {e : Option Fragment} {fs : List Fragment} → Chain none fs e → WholeSet fs → complete e ≡ true
-set-complete {e} c v = go (placed-chain [] c (rw append-nil (set-placed v)))
+set-complete {e} c v = go (placed_chain [] c (rw append-nil (set-placed v)))
   where
     go : Placed e [] → complete e ≡ true
     go (done t) = t
@@ -217,20 +217,20 @@ module _ (s : List ℕ) (q : ℕ) (fs : List Fragment) (w : InOrderTo s q fs) (e
   few : All Few fs
   few = all-few 0 0 (take q s) w.read
 
-  read-on : fragmentsFrom none 0 0 s ≡ (fs ++> fragmentsFrom e 0 q (drop q s))
+  read-on : fragments_from none 0 0 s ≡ (fs ++> fragments_from e 0 q (drop q s))
   read-on = rw (take-append-drop, length-take-le q s l, zero-add) at (goes_on none 0 0 (take q s) (drop q s) (omega arith) w.read c)
 
-  stays : {n p : ℕ} → fragmentsFrom e 0 q (drop q s) ≡ bad n p → joined s ≡ bad n p
+  stays : {n p : ℕ} → fragments_from e 0 q (drop q s) ≡ bad n p → joined s ≡ bad n p
   unfolding joined ◌++>◌
-  stays f = pass _ _ _ _ (le-ltb mostBytes (length s) w.small) (stop _ _ (read-on ∙ rw f))
+  stays f = pass _ _ _ _ (le-ltb most_bytes (length s) w.small) (stop _ _ (read-on ∙ rw f))
 
-  out-of-place : (f : Fragment) (n : ℕ) → fragment q (drop q s) ≡ good (f, n) → (Continued (fs ++ (f ∷ [])) → ⊥) → inPlace e f ≡ false
-  out-of-place f n g h = never_true _ (λ t. h (continued (chain-few fs (f ∷ []) few (all_cons (bits-few q (drop q s) (f, n) g) all_nil)) (chain_more f c t)))
+  out_of_place : (f : Fragment) (n : ℕ) → fragment q (drop q s) ≡ good (f, n) → (Continued (fs ++ (f ∷ [])) → ⊥) → in_place e f ≡ false
+  out_of_place f n g h = never_true _ (λ t. h (continued (chain_few fs (f ∷ []) few (all_cons (bits-few q (drop q s) (f, n) g) all_nil)) (chain_more f c t)))
 
   incomplete : (WholeSet fs → ⊥) → complete e ≡ false
-  incomplete h = never_true _ (λ t. h (placed-set few (rw append-nil at (chain-placed [] c (done t)))))
+  incomplete h = never_true _ (λ t. h (placed-set few (rw append-nil at (chain_placed [] c (done t)))))
 
-  whole-read : q ≡ length s → WholeSet fs → fragmentsFrom none 0 0 s ≡ good fs
+  whole-read : q ≡ length s → WholeSet fs → fragments_from none 0 0 s ≡ good fs
   unfolding ◌++>◌
   whole-read z v = read-on ∙ rw (z, drop-length s, from_end e (length s) (set-complete c v), append-nil)
 
@@ -241,58 +241,58 @@ unfolding at_start
 start-bad (good a) e = absurd (good≢bad (sym e))
 start-bad (bad n p) e = (p, cc, cc)
 
-at-start : (fs : List Fragment) {n p : ℕ} → cleanJoined fs ≡ bad n p → p ≡ 0
-unfolding cleanJoined
-at-start [] e = sym (bad-inj e).1
+at-start : (fs : List Fragment) {n p : ℕ} → clean_joined fs ≡ bad n p → p ≡ 0
+unfolding clean_joined
+at-start [] e = sym (bad_inj e).1
 at-start (f ∷ fs) e = (start-bad _ e).2
 
 -- ---- all of it
 
 module _ (s : List ℕ) where
   chained : {q : ℕ} {fs : List Fragment} → InOrderTo s q fs → (e : Option Fragment) × Chain none fs e
-  chained {fs = fs} w = chain-of fs w.continued.0 (set-placed w.continued.1)
+  chained {fs = fs} w = chain_of fs w.continued.0 (set-placed w.continued.1)
 
   module _ {fs : List Fragment} (w : InOrderTo s (length s) fs) (v : WholeSet fs) where
-    pub read_whole : fragmentsFrom none 0 0 s ≡ good fs
+    pub read_whole : fragments_from none 0 0 s ≡ good fs
     read_whole = let (e, c) = chained w in whole-read s (length s) fs w e c (omega arith) refl v
 
-    pub joins-whole : joined s ≡ cleanJoined fs
+    pub joins_whole : joined s ≡ clean_joined fs
     unfolding joined
-    joins-whole = pass _ _ _ _ (le-ltb mostBytes (length s) w.small) (step _ _ read_whole refl)
+    joins_whole = pass _ _ _ _ (le-ltb most_bytes (length s) w.small) (step _ _ read_whole refl)
 
   pub refuses : {n p : ℕ} → JoinRefused s n p → joined s ≡ bad n p
   unfolding joined
-  refuses (large l) = halt _ _ _ _ (lt-ltb mostBytes (length s) l)
+  refuses (large l) = halt _ _ _ _ (lt-ltb most_bytes (length s) l)
   refuses (bad-fragment {q = q} {fs = fs} w l f) =
       let (e, c) = chained w in
-      stays s q fs w e c (omega arith) (from-stop e q (drop q s) (omega (arith, length-drop q s)) f)
+      stays s q fs w e c (omega arith) (from_stop e q (drop q s) (omega (arith, length-drop q s)) f)
   refuses (gap {q = q} {n = n} {fs = fs} {f = f} w g h) =
       let (e, c) = chained w in
       let l : q ≤ length s = omega (arith, (inside q (drop q s) f n g).header, length-drop q s) in
-      stays s q fs w e c l (from-gap e q (drop q s) f n (omega (arith, (inside q (drop q s) f n g).header)) g (out-of-place s q fs w e c l f n g h))
-  refuses (last-missing {fs = fs} w h) =
+      stays s q fs w e c l (from-gap e q (drop q s) f n (omega (arith, (inside q (drop q s) f n g).header)) g (out_of_place s q fs w e c l f n g h))
+  refuses (last_missing {fs = fs} w h) =
       let (e, c) = chained w in
-      stays s (length s) fs w e c (omega arith) (rw (drop-length s) (from-missing e (length s) (incomplete s (length s) fs w e c (omega arith) h)))
-  refuses (bad-whole w v z) = joins-whole w v ∙ z
+      stays s (length s) fs w e c (omega arith) (rw (drop-length s) (from_missing e (length s) (incomplete s (length s) fs w e c (omega arith) h)))
+  refuses (bad-whole w v z) = joins_whole w v ∙ z
 
 -- fragments of the front, in order
-up_to : (front rest : List ℕ) {fs : List Fragment} {e : Option Fragment} → items fragment 0 0 front ≡ good fs → Chain none fs e → length (front ++ rest) ≤ mostBytes → InOrderTo (front ++ rest) (length front) fs
+up_to : (front rest : List ℕ) {fs : List Fragment} {e : Option Fragment} → items fragment 0 0 front ≡ good fs → Chain none fs e → length (front ++ rest) ≤ most_bytes → InOrderTo (front ++ rest) (length front) fs
 up_to front rest r c l = record { small = l; read = rw take-append_seam r; continued = continued (all-few 0 0 front r) c }
 
 -- where the reading was stopped behind them
-was-stopped : (front : List ℕ) {rest : List ℕ} {fs : List Fragment} {e : Option Fragment} {q n p : ℕ} → items fragment 0 0 front ≡ good fs → Chain none fs e → length (front ++ rest) ≤ mostBytes
+was_stopped : (front : List ℕ) {rest : List ℕ} {fs : List Fragment} {e : Option Fragment} {q n p : ℕ} → items fragment 0 0 front ≡ good fs → Chain none fs e → length (front ++ rest) ≤ most_bytes
     → q ≡ length front → Stops e q rest n p → JoinRefused (front ++ rest) n p
-was-stopped front {rest} {n = n} {p = p} r c l z (unread m f) = bad-fragment {n = n} {p = p} (up_to front rest r c l) (omega (arith, length-append front rest)) (rw (drop-append_seam, ← z) f)
-was-stopped front {rest} r c l z (apart {f = f} {n = n} g i) = rw z (gap {n = n} {f = f} (up_to front rest r c l) (rw (drop-append_seam, ← z) g) (not-continued f c i))
-was-stopped front r c l z (missing i) =
+was_stopped front {rest} {n = n} {p = p} r c l z (unread m f) = bad-fragment {n = n} {p = p} (up_to front rest r c l) (omega (arith, length-append front rest)) (rw (drop-append_seam, ← z) f)
+was_stopped front {rest} r c l z (apart {f = f} {n = n} g i) = rw z (gap {n = n} {f = f} (up_to front rest r c l) (rw (drop-append_seam, ← z) g) (not_continued f c i))
+was_stopped front r c l z (missing i) =
     let k : length (front ++ []) ≡ length front = rw append-nil in
-    rw (z, ← k) (last-missing (rw (← k) at (up_to front [] r c l)) (λ v. false≢true (sym i ∙ set-complete c v)))
+    rw (z, ← k) (last_missing (rw (← k) at (up_to front [] r c l)) (λ v. false≢true (sym i ∙ set-complete c v)))
 
 module _ (s : List ℕ) where
-  by-reading : {n p : ℕ} → length s ≤ mostBytes → Stopped none 0 0 s n p → JoinRefused s n p
-  by-reading {n} {p} l w = subst (λ (k : List ℕ). JoinRefused k n p) w.split (was-stopped w.front w.read w.chain (rw w.split l) (omega (arith, w.there)) w.stops)
+  by-reading : {n p : ℕ} → length s ≤ most_bytes → Stopped none 0 0 s n p → JoinRefused s n p
+  by-reading {n} {p} l w = subst (λ (k : List ℕ). JoinRefused k n p) w.split (was_stopped w.front w.read w.chain (rw w.split l) (omega (arith, w.there)) w.stops)
 
-  by-checks : {n p : ℕ} (fs : List Fragment) → length s ≤ mostBytes → fragmentsFrom none 0 0 s ≡ good fs → cleanJoined fs ≡ bad n p → JoinRefused s n p
+  by-checks : {n p : ℕ} (fs : List Fragment) → length s ≤ most_bytes → fragments_from none 0 0 s ≡ good fs → clean_joined fs ≡ bad n p → JoinRefused s n p
   by-checks {n} fs l e z =
       let (r, w) = in_order none 0 0 s e in
       let v : WholeSet fs = placed-set (all-few 0 0 s r) w in

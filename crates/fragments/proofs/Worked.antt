@@ -6,28 +6,28 @@ use borrow.Author.Tests.{lt-ltb}
 use lib.ListN.{length}
 use Rattle.rules.specs.Outcome.{LARGE, refuse, ◌>>◌, ◌>>=◌, ◌∷>◌}
 use Rattle.rules.specs.Bytes.{half, word}
-use Rattle.rules.specs.Options.{lengthAllowed, optionSize, optionFits, isSecond, optionRunFrom, countSaidFrom}
+use Rattle.rules.specs.Options.{length_allowed, option_size, option_fits, is_second, option_run_from, count_said_from}
 use Rattle.rules.specs.Items.{items, count}
-use Rattle.rules.specs.Packages.{packageFits, piece, packageOf, piece_of}
-use Rattle.rules.specs.Message.{head, checksOneToSix, optionRunLength, checksEightAndNine, checksOneToNine, checksOneToTen, everyCheck, recordOf, message}
-use Rattle.rules.specs.Clean.{cleanPiece, cleanBytes, cleanForm}
+use Rattle.rules.specs.Packages.{package_fits, piece, package_of, piece_of}
+use Rattle.rules.specs.Message.{head, checks_one_to_six, option_run_length, checks_eight_and_nine, checks_one_to_nine, checks_one_to_ten, every_check, record_of, message}
+use Rattle.rules.specs.Clean.{clean_piece, clean_bytes, clean_form}
 use Rattle.rules.specs.Buffer.{unwritten, fitted, stored}
-use Rattle.fragments.specs.Fragment.{parts, isOffset, offsetIn, withoutOffset, fragmentOf, fragment, fragmentBytes}
-use Rattle.fragments.specs.Cutting.{whole_of, laterFragments, fragmentsWith, noOffset, fragmentsOf, cutWhole, cutInto, roomForAll, cutStored, cutter}
-use Rattle.fragments.specs.Joining.{begins, goesOn, follows, inPlace, complete, fragmentsFrom, keptOptions, joinedWith, at_start, cleanJoined, joined, joiner}
+use Rattle.fragments.specs.Fragment.{parts, is_offset, offset_in, without_offset, fragment_of, fragment, fragment_bytes}
+use Rattle.fragments.specs.Cutting.{whole_of, later_fragments, fragments_with, no_offset, fragments_of, cut_whole, cut_into, room_for_all, cut_stored, cutter}
+use Rattle.fragments.specs.Joining.{begins, goesOn, follows, in_place, complete, fragments_from, kept_options, joined_with, at_start, clean_joined, joined, joiner}
 use Rattle.fragments.specs.Worked.{uncut, WorkedCuts, WorkedJoins}
 
 cut-large : (s b : List ℕ) → 65536 < length s → cutter 12 s b ≡ (uncut LARGE 65536, b)
-unfolding cutter cutStored cutInto refuse ◌>>◌ ◌>>=◌
+unfolding cutter cut_stored cut_into refuse ◌>>◌ ◌>>=◌
 cut-large s b l = rw (lt-ltb 65536 (length s) l)
 
 join-large : (s b : List ℕ) → 65536 < length s → joiner s b ≡ (unwritten LARGE 65536, b)
 unfolding joiner joined stored refuse ◌>>◌ ◌>>=◌
 join-large s b l = rw (lt-ltb 65536 (length s) l)
 
-pub worked-cuts : WorkedCuts
-unfolding refuse ◌>>◌ ◌>>=◌ ◌∷>◌ half word items count lengthAllowed optionSize optionFits isSecond optionRunFrom countSaidFrom packageFits piece packageOf piece_of head checksOneToSix optionRunLength checksEightAndNine checksOneToNine checksOneToTen everyCheck recordOf message fitted parts isOffset fragmentBytes whole_of laterFragments fragmentsWith noOffset fragmentsOf cutWhole cutInto roomForAll cutStored cutter
-worked-cuts = record {
+pub worked_cuts : WorkedCuts
+unfolding refuse ◌>>◌ ◌>>=◌ ◌∷>◌ half word items count length_allowed option_size option_fits is_second option_run_from count_said_from package_fits piece package_of piece_of head checks_one_to_six option_run_length checks_eight_and_nine checks_one_to_nine checks_one_to_ten every_check record_of message fitted parts is_offset fragment_bytes whole_of later_fragments fragments_with no_offset fragments_of cut_whole cut_into room_for_all cut_stored cutter
+worked_cuts = record {
   three = refl;
   fits = refl;
   behind = refl;
@@ -42,31 +42,31 @@ worked-cuts = record {
   large = cut-large;
 }
 
-pub worked-joins : WorkedJoins
-unfolding refuse ◌>>◌ ◌>>=◌ ◌∷>◌ half word items count lengthAllowed optionSize optionFits isSecond optionRunFrom countSaidFrom packageFits piece head checksOneToSix optionRunLength checksEightAndNine checksOneToNine checksOneToTen everyCheck cleanPiece cleanBytes cleanForm fitted stored parts isOffset offsetIn withoutOffset fragmentOf fragment fragmentBytes begins goesOn follows inPlace complete fragmentsFrom keptOptions joinedWith at_start cleanJoined joined joiner
-worked-joins = record {
+pub worked_joins : WorkedJoins
+unfolding refuse ◌>>◌ ◌>>=◌ ◌∷>◌ half word items count length_allowed option_size option_fits is_second option_run_from count_said_from package_fits piece head checks_one_to_six option_run_length checks_eight_and_nine checks_one_to_nine checks_one_to_ten every_check clean_piece clean_bytes clean_form fitted stored parts is_offset offset_in without_offset fragment_of fragment fragment_bytes begins goesOn follows in_place complete fragments_from kept_options joined_with at_start clean_joined joined joiner
+worked_joins = record {
   three = refl;
   one = refl;
   empty = refl;
   room = refl;
-  no-first = λ b. refl;
+  no_first = λ b. refl;
   no_middle = λ b. refl;
   no_last = λ b. refl;
   twice = λ b. refl;
   swapped = λ b. refl;
-  another-id = λ b. refl;
-  another-time = λ b. refl;
-  another-flag = λ b. refl;
-  another-number = λ b. refl;
-  another-offset = λ b. refl;
-  no-offset = λ b. refl;
+  another_id = λ b. refl;
+  another_time = λ b. refl;
+  another_flag = λ b. refl;
+  another_number = λ b. refl;
+  another_offset = λ b. refl;
+  no_offset = λ b. refl;
   reserved = refl;
   behind = λ b. refl;
   nothing = λ b. refl;
   gap-first = λ b. refl;
   short-first = λ b. refl;
   standard = λ b. refl;
-  bad-package = λ b. refl;
+  bad_package = λ b. refl;
   count = λ b. refl;
   large = join-large;
 }

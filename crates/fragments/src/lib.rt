@@ -3,18 +3,18 @@
 ghost use Rattle.std.specs.Prelude.{◌≡◌, true, ◌++◌, ◌+◌, ◌-◌, ◌*◌, ◌/◌, ◌%◌, ◌≤◌, ◌<◌, min, length, take, drop};
 ghost use Rattle.std.proofs.lemmas.List.Edits.{sets};
 ghost use Rattle.rules.specs.Bytes.{pad, part};
-ghost use Rattle.rules.specs.Options.{optionSize};
-ghost use Rattle.rules.specs.Packages.{packageFits, cut, Piece};
-ghost use Rattle.rules.specs.Clean.{cleanPiece, cleaner};
-ghost use Rattle.compose.specs.Payload.{Cuts, headerOf};
-ghost use Rattle.fragments.specs.Fragment.{optionsOf, offsetOption, fragmentBytes, bytes_of, nextNumber, FIRST, offsetIn, withoutOffset};
+ghost use Rattle.rules.specs.Options.{option_size};
+ghost use Rattle.rules.specs.Packages.{package_fits, cut, Piece};
+ghost use Rattle.rules.specs.Clean.{clean_piece, cleaner};
+ghost use Rattle.compose.specs.Payload.{Cuts, header_of};
+ghost use Rattle.fragments.specs.Fragment.{options_of, offset_option, fragment_bytes, bytes_of, next_number, FIRST, offset_in, without_offset};
 ghost use Rattle.fragments.specs.Cutting.{cutter};
-ghost use Rattle.fragments.specs.Stored.{WholeOptions, offsetPlace, CleanedAt, cleanedOf, fragmentBy, numbered, bits_at, Movable, Cuttable, fragmentsBy, fragmentsSize, fragmented, onePiece, header_at, packageStep, scan, packageStart, starts, fitsBehind, nextFragment, beginsBy, Begun, gathered, keptHere, payloadsIn, InOrder, keptBy, Storable, wholeBy, oneIf, Joinable};
-ghost use Rattle.fragments.specs.Told.{toldCut, toldStep, toldGathered, refusedWith, recordWhole};
+ghost use Rattle.fragments.specs.Stored.{WholeOptions, offset_place, CleanedAt, cleaned_of, fragment_by, numbered, bits_at, Movable, Cuttable, fragments_by, fragments_size, fragmented, one_piece, header_at, package_step, scan, package_start, starts, fits_behind, next_fragment, begins_by, Begun, gathered, kept_here, payloads_in, InOrder, kept_by, Storable, whole_by, one_if, Joinable};
+ghost use Rattle.fragments.specs.Told.{told_cut, told_step, told_gathered, refused_with, record_whole};
 ghost use Rattle.rules.specs.Outcome.{bad};
 ghost use Rattle.refusal.specs.Numbers.{GAP};
-ghost use Rattle.message.specs.Answers.{toldHeader, headOfHeader};
-ghost use Rattle.fragments.specs.Joining.{saysOffset, fragmentsFrom, joiner};
+ghost use Rattle.message.specs.Answers.{told_header, head_of_header};
+ghost use Rattle.fragments.specs.Joining.{says_offset, fragments_from, joiner};
 ghost use Rattle.compose.specs.Told.{told};
 ghost use Rattle.std.proofs.Math.Option.{none};
 
@@ -64,7 +64,7 @@ fn least(a: usize, b: usize) -> usize
 
 // The sequence number behind q.
 fn next_number(q: u32) -> u32
-    ensures { result ≡ nextNumber q }
+    ensures { result ≡ next_number q }
 {
     if q < 4294967295 {
         return q + 1;
@@ -74,7 +74,7 @@ fn next_number(q: u32) -> u32
 
 // How many bytes the option at the start of o has.
 fn option_size(o: &[u8]) -> usize
-    ensures { result ≡ optionSize o.now }
+    ensures { result ≡ option_size o.now }
 {
     if wire::byte_at(o, 0) < 0x80 {
         return 1;
@@ -85,7 +85,7 @@ fn option_size(o: &[u8]) -> usize
 // Where the first option 0x86 of an option run stands, or where the run ends.
 fn find_offset(run: &[u8]) -> usize
     requires { WholeOptions run.now }
-    ensures { result ≡ offsetPlace (optionsOf run.now) }
+    ensures { result ≡ offset_place (options_of run.now) }
 {
     let mut i = 0;
     while i < run.len() {
@@ -100,7 +100,7 @@ fn find_offset(run: &[u8]) -> usize
 // Cleans a package where it stands: reserved byte and padding zero.
 fn clean_package(c: &mut [u8])
     requires { Piece c.old }
-    ensures { c.new ≡ cleanPiece c.old }
+    ensures { c.new ≡ clean_piece c.old }
 {
     let n = c.len();
     let l = wide16(wire::half_at(&c[0..], 4));
@@ -110,7 +110,7 @@ fn clean_package(c: &mut [u8])
 
 // Cleans the package at place i of a run, and says where the next one begins.
 fn clean_next(run: &mut [u8], i: usize) -> usize
-    requires run_value { packageFits (drop i run.old) ≡ true }
+    requires run_value { package_fits (drop i run.old) ≡ true }
     requires i_in_bounds { (i ≤ length run.old) × (length run.old ≤ 65536) }
     ensures { CleanedAt run.old i run.new result }
 {
@@ -123,7 +123,7 @@ fn clean_next(run: &mut [u8], i: usize) -> usize
 fn clean_run(run: &mut [u8])
     requires cuts { Cuts run.old }
     requires run_len_bound { length run.old ≤ 65536 }
-    ensures { run.new ≡ cleanedOf (cut 0 run.old) }
+    ensures { run.new ≡ cleaned_of (cut 0 run.old) }
 {
     let mut i = 0;
     while i < run.len() {
@@ -146,7 +146,7 @@ fn move_down(out: &mut [u8], to: usize, from: usize, n: usize)
 // Stores the header of a fragment of `size` bytes with so many option words, and its flags, bits 5-4 among them.
 fn put_front(out: &mut [u8], r: Record, words: usize, flags: u8, size: usize)
     requires { (words ≤ 15) × (24 + words * 4 ≤ size) × (size < 65560 + words * 4) × (24 ≤ length out.old) }
-    ensures { out.new ≡ sets out.old 0 (headerOf words flags r.id.0 r.sequence size r.seconds r.nanos) }
+    ensures { out.new ≡ sets out.old 0 (header_of words flags r.id.0 r.sequence size r.seconds r.nanos) }
 {
     let run = words * 4;
     compose::put_header(out, r, run as u8, (size - (24 + run)) as u16);
@@ -156,7 +156,7 @@ fn put_front(out: &mut [u8], r: Record, words: usize, flags: u8, size: usize)
 // Stores option 0x86.
 fn put_offset(out: &mut [u8], at: usize, offset: usize)
     requires { (at ≤ 65536) × (offset < 4294967296) }
-    ensures { out.new ≡ sets out.old at (offsetOption offset) }
+    ensures { out.new ≡ sets out.old at (offset_option offset) }
 {
     wire::put_half(out, at, 0x8606);
     wire::put_word(out, at + 2, narrow32(offset));
@@ -166,7 +166,7 @@ fn put_offset(out: &mut [u8], at: usize, offset: usize)
 fn put_later(out: &mut [u8], r: Record, bits: u8, offset: usize, from: usize, n: usize)
     requires movable { Movable out.old r bits 32 from n }
     requires bits_bound { (bits < 4) × (offset < 4294967296) }
-    ensures { out.new ≡ sets out.old 0 (fragmentBytes (fragmentBy r bits (offsetOption offset) (part from (from + n) out.old))) }
+    ensures { out.new ≡ sets out.old 0 (fragment_bytes (fragment_by r bits (offset_option offset) (part from (from + n) out.old))) }
 {
     put_front(out, r, 2, r.flags + bits * 16, 32 + n);
     put_offset(out, 24, offset);
@@ -178,7 +178,7 @@ fn put_later(out: &mut [u8], r: Record, bits: u8, offset: usize, from: usize, n:
 fn put_first(out: &mut [u8], r: Record, options: &[u8], from: usize, n: usize)
     requires movable { Movable out.old r 1 (24 + pad (length options.now + 6)) from n }
     requires options_len_bound { length options.now ≤ 54 }
-    ensures { out.new ≡ sets out.old 0 (fragmentBytes (fragmentBy r FIRST (options.now ++ offsetOption 0) (part from (from + n) out.old))) }
+    ensures { out.new ≡ sets out.old 0 (fragment_bytes (fragment_by r FIRST (options.now ++ offset_option 0) (part from (from + n) out.old))) }
 {
     let k = options.len();
     let m = round_up(k + 6);
@@ -209,7 +209,7 @@ fn put_at(
 )
     requires movable { Movable out.old r bits (at + 32) from n }
     requires bits_bound { (bits < 4) × (offset < 4294967296) }
-    ensures { out.new ≡ sets out.old at (fragmentBytes (fragmentBy (numbered r q) bits (offsetOption offset) (part from (from + n) out.old))) }
+    ensures { out.new ≡ sets out.old at (fragment_bytes (fragment_by (numbered r q) bits (offset_option offset) (part from (from + n) out.old))) }
 {
     let id = r.id;
     let mine = Record {
@@ -226,7 +226,7 @@ fn put_at(
 fn put_clean(out: &mut [u8], run: &[u8], n: usize)
     requires cuts { Cuts run.now }
     requires run_len_bound { (length run.now ≤ n) × (n ≤ length out.old) × (length run.now ≤ 65536) }
-    ensures { out.new ≡ take (n - length run.now) out.old ++ (cleanedOf (cut 0 run.now) ++ drop n out.old) }
+    ensures { out.new ≡ take (n - length run.now) out.old ++ (cleaned_of (cut 0 run.now) ++ drop n out.old) }
 {
     let k = run.len();
     wire::put_part(out, n - k, run, 0, k);
@@ -244,8 +244,8 @@ fn parts_of(n: usize, size: usize) -> usize
 // Stores the fragments of a message, n bytes in all. The cleaned payload is put at their end first and then moved down, part by part.
 fn put_fragments(out: &mut [u8], r: Record, options: &[u8], packages: &[u8], size: usize, n: usize)
     requires cuttable { Cuttable r options.now packages.now size }
-    requires n_value { (n ≡ fragmentsSize options.now packages.now (length (fragmentsBy r options.now packages.now size))) × (n ≤ length out.old) × (n ≤ 4294967296) }
-    ensures { out.new ≡ sets out.old 0 (bytes_of (fragmentsBy r options.now packages.now size)) }
+    requires n_value { (n ≡ fragments_size options.now packages.now (length (fragments_by r options.now packages.now size))) × (n ≤ length out.old) × (n ≤ 4294967296) }
+    ensures { out.new ≡ sets out.old 0 (bytes_of (fragments_by r options.now packages.now size)) }
 {
     let base = n - packages.len();
     put_clean(out, packages, n);
@@ -272,7 +272,7 @@ fn refuse(why: Why, place: usize) -> Fragmented
 // The fragments of a message that was checked, stored where there is room for them.
 fn finish_cut(r: Record, options: &[u8], packages: &[u8], size: usize, out: &mut [u8]) -> Fragmented
     requires { Cuttable r options.now packages.now size }
-    ensures { toldCut result out.new ≡ fragmented r options.now packages.now size out.old }
+    ensures { told_cut result out.new ≡ fragmented r options.now packages.now size out.old }
 {
     let k = parts_of(packages.len(), size);
     let n = 24 + round_up(options.len() + 6) + packages.len() + 32 * (k - 1);
@@ -288,7 +288,7 @@ fn finish_cut(r: Record, options: &[u8], packages: &[u8], size: usize, out: &mut
 
 // A message whose payload fits: its clean form.
 fn finish_whole(s: &[u8], out: &mut [u8]) -> Fragmented
-    ensures { toldCut result out.new ≡ onePiece (cleaner s.now out.old) }
+    ensures { told_cut result out.new ≡ one_piece (cleaner s.now out.old) }
 {
     match compose::clean(s, out) {
         Written::Refused(x) => Fragmented::Refused(x),
@@ -301,7 +301,7 @@ fn finish_whole(s: &[u8], out: &mut [u8]) -> Fragmented
 
 // Cuts the clean form of the first message of s into fragments with `size` bytes of payload each.
 pub fn cut(s: &[u8], size: usize, out: &mut [u8]) -> Fragmented
-    ensures { toldCut result out.new ≡ cutter size s.now out.old }
+    ensures { told_cut result out.new ≡ cutter size s.now out.old }
 {
     match message::message_at(s, 0) {
         MessageRead::Refused(x) => Fragmented::Refused(x),
@@ -342,7 +342,7 @@ pub fn cut(s: &[u8], size: usize, out: &mut [u8]) -> Fragmented
 // The header of the fragment at place i, read with checks 1 to 7.
 fn header_at(s: &[u8], i: usize) -> HeaderRead
     requires { (i ≤ length s.now) × (length s.now ≤ 65536) }
-    ensures { toldHeader result ≡ header_at s.now i }
+    ensures { told_header result ≡ header_at s.now i }
 {
     match message::read_header(&s[i..]) {
         HeaderRead::Header(h) => HeaderRead::Header(h),
@@ -364,7 +364,7 @@ struct Passed {
 // The state behind one word, which begins with l.
 fn state_step(state: usize, l: usize) -> usize
     requires { (l < 65536) × (state < 4294967296) }
-    ensures { (result ≡ packageStep state l) × (result < 4294967296) }
+    ensures { (result ≡ package_step state l) × (result < 4294967296) }
 {
     if state == 0 {
         return 1;
@@ -387,7 +387,7 @@ fn state_step(state: usize, l: usize) -> usize
 // One word more, which begins with l.
 fn package_step(st: Passed, l: usize) -> Passed
     requires { (l < 65536) × (st.state < 4294967296) × (st.packages < 4294967296) }
-    ensures { (result.state ≡ packageStep st.state l) × (result.packages ≡ st.packages + packageStart st.state) × (result.state < 4294967296) }
+    ensures { (result.state ≡ package_step st.state l) × (result.packages ≡ st.packages + package_start st.state) × (result.state < 4294967296) }
 {
     let state = state_step(st.state, l);
     if st.state == 0 {
@@ -443,7 +443,7 @@ fn scan_run(run: &[u8], start: Passed) -> Passed
 // Whether the first option 0x86 of a run is there and says o.
 fn offset_is(run: &[u8], o: usize) -> bool
     requires { WholeOptions run.now }
-    ensures { result ≡ saysOffset (offsetIn (optionsOf run.now)) o }
+    ensures { result ≡ says_offset (offset_in (options_of run.now)) o }
 {
     let at = find_offset(run);
     if at < run.len() {
@@ -461,7 +461,7 @@ fn wide32(x: u32) -> usize
 // Whether the fragment with header g and this option run may stand behind one with bits `last`, where h is the first header, q the next number and o the next offset.
 fn fits_behind(h: Header, last: u8, q: u32, o: usize, g: Header, run: &[u8]) -> bool
     requires { WholeOptions run.now }
-    ensures { result ≡ fitsBehind (headOfHeader h) last q o (headOfHeader g) run.now }
+    ensures { result ≡ fits_behind (head_of_header h) last q o (head_of_header g) run.now }
 {
     if last == 0 {
         return false;
@@ -501,7 +501,7 @@ enum Step {
 
 fn next_fragment(s: &[u8], i: usize, h: Header, last: u8, q: u32, o: usize) -> Step
     requires { (i ≤ length s.now) × (length s.now ≤ 65536) }
-    ensures { toldStep result ≡ nextFragment s.now i (headOfHeader h) last q o }
+    ensures { told_step result ≡ next_fragment s.now i (head_of_header h) last q o }
 {
     match header_at(s, i) {
         HeaderRead::Refused(x) => Step::Refused(x),
@@ -523,7 +523,7 @@ fn next_fragment(s: &[u8], i: usize, h: Header, last: u8, q: u32, o: usize) -> S
 // Whether the fragment with header g and this option run may stand first.
 fn begins(g: Header, run: &[u8]) -> bool
     requires { WholeOptions run.now }
-    ensures { result ≡ beginsBy (headOfHeader g) run.now }
+    ensures { result ≡ begins_by (head_of_header g) run.now }
 {
     if g.flags / 16 % 4 == 0 {
         return true;
@@ -542,7 +542,7 @@ enum Gathered {
 }
 
 fn gap(place: usize) -> Gathered
-    ensures { toldGathered result ≡ bad GAP place }
+    ensures { told_gathered result ≡ bad GAP place }
 {
     let why = Why::Gap;
     Gathered::Refused(Refusal { why, place })
@@ -550,9 +550,9 @@ fn gap(place: usize) -> Gathered
 
 // The fragments behind the first, whose header is h.
 fn follow(s: &[u8], h: Header) -> Gathered
-    requires begun { Begun s.now (headOfHeader h) h.run }
+    requires begun { Begun s.now (head_of_header h) h.run }
     requires s_len_bound { length s.now ≤ 65536 }
-    ensures { toldGathered result ≡ gathered s.now }
+    ensures { told_gathered result ≡ gathered s.now }
 {
     let start = 24 + 4 * wide8(h.words);
     let mut i = wide32(h.length);
@@ -595,7 +595,7 @@ fn follow(s: &[u8], h: Header) -> Gathered
 // All the fragments read: checks 1 to 7 and GAP, one fragment behind the other.
 fn gather(s: &[u8]) -> Gathered
     requires { length s.now ≤ 65536 }
-    ensures { toldGathered result ≡ gathered s.now }
+    ensures { told_gathered result ≡ gathered s.now }
 {
     if s.len() == 0 {
         return gap(0);
@@ -614,7 +614,7 @@ fn gather(s: &[u8]) -> Gathered
 
 // How many bytes of the option at the start of o are kept: none of 0x86.
 fn kept_here(o: &[u8]) -> usize
-    ensures { result ≡ keptHere o.now }
+    ensures { result ≡ kept_here o.now }
 {
     if wire::byte_at(o, 0) == 0x86 {
         return 0;
@@ -625,7 +625,7 @@ fn kept_here(o: &[u8]) -> usize
 // How many bytes an option run has without its options 0x86.
 fn kept_size(run: &[u8]) -> usize
     requires { WholeOptions run.now }
-    ensures { result ≡ length (withoutOffset (optionsOf run.now)) }
+    ensures { result ≡ length (without_offset (options_of run.now)) }
 {
     let mut i = 0;
     let mut n = 0;
@@ -641,7 +641,7 @@ fn kept_size(run: &[u8]) -> usize
 fn put_kept(out: &mut [u8], at: usize, run: &[u8])
     requires whole_options { WholeOptions run.now }
     requires at_bound { (at ≤ 65536) × (length run.now ≤ 65536) }
-    ensures { out.new ≡ sets out.old at (withoutOffset (optionsOf run.now)) }
+    ensures { out.new ≡ sets out.old at (without_offset (options_of run.now)) }
 {
     let mut i = 0;
     let mut k = at;
@@ -657,7 +657,7 @@ fn put_kept(out: &mut [u8], at: usize, run: &[u8])
 fn put_payloads(out: &mut [u8], at: usize, s: &[u8])
     requires in_order { InOrder s.now }
     requires at_bound { (at ≤ 65536) × (length s.now ≤ 65536) }
-    ensures { out.new ≡ sets out.old at (payloadsIn (fragmentsFrom none 0 0 s.now)) }
+    ensures { out.new ≡ sets out.old at (payloads_in (fragments_from none 0 0 s.now)) }
 {
     let mut i = 0;
     let mut k = at;
@@ -673,7 +673,7 @@ fn put_payloads(out: &mut [u8], at: usize, s: &[u8])
 // How many bytes of options the joined message has: all of a whole message's, of a first fragment's all but 0x86.
 fn kept_of(bits: u8, run: &[u8]) -> usize
     requires { WholeOptions run.now }
-    ensures { result ≡ length (keptBy bits run.now) }
+    ensures { result ≡ length (kept_by bits run.now) }
 {
     if bits == 0 {
         return run.len();
@@ -685,7 +685,7 @@ fn kept_of(bits: u8, run: &[u8]) -> usize
 fn put_kept_of(out: &mut [u8], bits: u8, run: &[u8])
     requires whole_options { WholeOptions run.now }
     requires run_len_bound { length run.now ≤ 65536 }
-    ensures { out.new ≡ sets out.old 24 (keptBy bits run.now) }
+    ensures { out.new ≡ sets out.old 24 (kept_by bits run.now) }
 {
     if bits == 0 {
         wire::put_part(out, 24, run, 0, run.len());
@@ -699,7 +699,7 @@ fn put_joined(out: &mut [u8], r: Record, bits: u8, run: &[u8], s: &[u8], k: usiz
     requires whole_options { WholeOptions run.now }
     requires in_order { InOrder s.now }
     requires storable { Storable out.old bits run.now s.now k n }
-    ensures { out.new ≡ sets out.old 0 (fragmentBytes (wholeBy r (keptBy bits run.now) (payloadsIn (fragmentsFrom none 0 0 s.now)))) }
+    ensures { out.new ≡ sets out.old 0 (fragment_bytes (whole_by r (kept_by bits run.now) (payloads_in (fragments_from none 0 0 s.now)))) }
 {
     let m = round_up(k);
     put_front(out, r, m / 4, r.flags, n);
@@ -710,14 +710,14 @@ fn put_joined(out: &mut [u8], r: Record, bits: u8, run: &[u8], s: &[u8], k: usiz
 }
 
 fn one_if(n: usize) -> u8
-    ensures { result ≡ oneIf n }
+    ensures { result ≡ one_if n }
 {
     if 0 < n { 1 } else { 0 }
 }
 
 // The numbers of the joined message: those of the first header, bits 5-4 zero.
 fn joined_record(h: Header) -> Record
-    ensures { result ≡ recordWhole h }
+    ensures { result ≡ record_whole h }
 {
     let id = h.id;
     Record {
@@ -730,14 +730,14 @@ fn joined_record(h: Header) -> Record
 }
 
 fn refused(why: Why, place: usize) -> Written
-    ensures { result ≡ refusedWith why place }
+    ensures { result ≡ refused_with why place }
 {
     Written::Refused(Refusal { why, place })
 }
 
 // The joined message, checked from check 9 on and stored where there is room for it. h is the first header.
 fn finish_join(s: &[u8], h: Header, payload: usize, passed: Passed, out: &mut [u8]) -> Written
-    requires { Joinable s.now (headOfHeader h) h.run payload passed }
+    requires { Joinable s.now (head_of_header h) h.run payload passed }
     ensures { told result out.new ≡ joiner s.now out.old }
 {
     if h.flags / 128 % 2 != one_if(payload) {

@@ -4,36 +4,36 @@
 ghost use Rattle.std.specs.Prelude.{◌≡◌, [], ◌∷◌, map, ◌+◌, ◌*◌, ◌≤◌, ◌<◌, length};
 ghost use Rattle.std.proofs.lemmas.List.Edits.{sets};
 ghost use Rattle.rules.specs.Bytes.{join};
-ghost use Rattle.rules.specs.Reading.{header, checkedRecording};
-ghost use Rattle.rules.specs.Walk.{packageAt};
+ghost use Rattle.rules.specs.Reading.{header, checked_recording};
+ghost use Rattle.rules.specs.Walk.{package_at};
 ghost use Rattle.rules.specs.Writer.{writer};
 ghost use Rattle.rules.specs.Clean.{cleaner};
-ghost use Rattle.rules.specs.Sheet.{sheetRows};
+ghost use Rattle.rules.specs.Sheet.{sheet_rows};
 ghost use Rattle.rules.specs.Copy.{measurement, copy};
 ghost use Rattle.rules.specs.Burst.{randomizer, opener};
 ghost use Rattle.purge.specs.Purge as purging;
 ghost use Rattle.fragments.specs.Cutting.{cutter};
 ghost use Rattle.fragments.specs.Joining.{joiner};
-ghost use Rattle.fragments.specs.Told.{cutNumbers};
+ghost use Rattle.fragments.specs.Told.{cut_numbers};
 ghost use Rattle.refusal.specs.Numbers.{number_of};
 ghost use Rattle.sheet.specs.Rows.{row_in};
 ghost use Rattle.compose.specs.Told.{numbers, told};
 ghost use Rattle.release.specs.Told as release;
 ghost use Rattle.numbered.specs.Told.{report};
 ghost use Rattle.step.specs.Step as rule;
-ghost use Rattle.step.specs.Told.{stateIn};
-ghost use Rattle.ids.specs.Reader.{readIds};
-ghost use Rattle.ids.specs.Writer.{writeIds};
-ghost use Rattle.ids.specs.Told.{rangeIn, handedOver, rangesIn};
+ghost use Rattle.step.specs.Told.{state_in};
+ghost use Rattle.ids.specs.Reader.{read_ids};
+ghost use Rattle.ids.specs.Writer.{write_ids};
+ghost use Rattle.ids.specs.Told.{range_in, handed_over, ranges_in};
 ghost use Rattle.salvage.specs.Salvage as salvage;
 ghost use Rattle.salvage.specs.Told as salvaged;
-ghost use Rattle.capture.specs.Reading.{readCapture};
-ghost use Rattle.capture.specs.Writing.{writeCapture};
-ghost use Rattle.capture.specs.Told.{numbersRead, numbersWritten};
-ghost use Rattle.radio.specs.Radio.{radioRead, tlvAt, radioWriter};
-ghost use Rattle.radio.specs.Row.{linkRow};
+ghost use Rattle.capture.specs.Reading.{read_capture};
+ghost use Rattle.capture.specs.Writing.{write_capture};
+ghost use Rattle.capture.specs.Told.{numbers_read, numbers_written};
+ghost use Rattle.radio.specs.Radio.{radio_read, tlv_at, radio_writer};
+ghost use Rattle.radio.specs.Row.{link_row};
 ghost use Rattle.hibernaxo.specs.Radio as radios;
-ghost use Rattle.hibernaxo.specs.Told.{headerTold, stepTold, checkTold, draft, writtenValues, writtenTold, rowValues, sheetTold, answerValues, copyTold, numbersFrom, stateAt, stateValues, reportValues, steppedTold, randomizedTold, openedTold, rangeValues, idsTold, stretchValues, salvageValues, salvageTold, readValues, readTold, sentValues, sentTold, cutValues, cutTold};
+ghost use Rattle.hibernaxo.specs.Told.{header_told, step_told, check_told, draft, written_values, written_told, row_values, sheet_told, answer_values, copy_told, numbers_from, state_at, state_values, report_values, stepped_told, randomized_told, opened_told, range_values, ids_told, stretch_values, salvage_values, salvage_told, read_values, read_told, sent_values, sent_told, cut_values, cut_told};
 
 use burst::{Opened, Randomized};
 use capture::{CaptureRead, CaptureWritten};
@@ -60,7 +60,7 @@ fn number_in(x: Refusal) -> u32
 // A header alone: W, flags, message id, sequence number, length, time, and where its option run begins and how long it is.
 #[unsafe(no_mangle)]
 pub extern "C" fn hibernaxo_header(bytes: &[u8], values: &mut [u64; 10]) -> u32
-    ensures { (result, values.new) ≡ headerTold (header bytes.now) }
+    ensures { (result, values.new) ≡ header_told (header bytes.now) }
 {
     match message::read_header(bytes) {
         HeaderRead::Header(h) => {
@@ -88,7 +88,7 @@ pub extern "C" fn hibernaxo_header(bytes: &[u8], values: &mut [u64; 10]) -> u32
 // A step of a package walk: a package with its numbers, where its data begin and how long they are, or the end; and the walk's next place.
 #[unsafe(no_mangle)]
 pub extern "C" fn hibernaxo_package(run: &[u8], at: usize, values: &mut [u64; 9]) -> u32
-    ensures { (result, values.new) ≡ stepTold at (packageAt run.now at) }
+    ensures { (result, values.new) ≡ step_told at (package_at run.now at) }
 {
     let place = at as u64;
     match walk::step_at(run, at) {
@@ -120,7 +120,7 @@ pub extern "C" fn hibernaxo_package(run: &[u8], at: usize, values: &mut [u64; 9]
 // A recording checked: messages and packages.
 #[unsafe(no_mangle)]
 pub extern "C" fn hibernaxo_check(recording: &[u8], values: &mut [u64; 3]) -> u32
-    ensures { (result, values.new) ≡ checkTold (checkedRecording recording.now) }
+    ensures { (result, values.new) ≡ check_told (checked_recording recording.now) }
 {
     match message::check(recording) {
         Checked::Passed { messages, packages } => {
@@ -136,7 +136,7 @@ pub extern "C" fn hibernaxo_check(recording: &[u8], values: &mut [u64; 3]) -> u3
 
 // What the writer, the cleaner, the purge, joining and the writer of ids answered.
 fn put_written(a: Written, values: &mut [u64; 2]) -> u32
-    ensures { (result, values.new) ≡ writtenValues (numbers a) }
+    ensures { (result, values.new) ≡ written_values (numbers a) }
 {
     match a {
         Written::Done { bytes } => {
@@ -163,7 +163,7 @@ pub extern "C" fn hibernaxo_write(
     out: &mut [u8],
     values: &mut [u64; 2],
 ) -> u32
-    ensures { (result, values.new, out.new) ≡ writtenTold (writer (draft flags message_id sequence seconds nanoseconds options.now packages.now) out.old) }
+    ensures { (result, values.new, out.new) ≡ written_told (writer (draft flags message_id sequence seconds nanoseconds options.now packages.now) out.old) }
 {
     let record = Record {
         flags,
@@ -179,7 +179,7 @@ pub extern "C" fn hibernaxo_write(
 // The clean form of one message: bytes.
 #[unsafe(no_mangle)]
 pub extern "C" fn hibernaxo_clean(bytes: &[u8], out: &mut [u8], values: &mut [u64; 2]) -> u32
-    ensures { (result, values.new, out.new) ≡ writtenTold (cleaner bytes.now out.old) }
+    ensures { (result, values.new, out.new) ≡ written_told (cleaner bytes.now out.old) }
 {
     let a = compose::clean(bytes, out);
     put_written(a, values)
@@ -188,7 +188,7 @@ pub extern "C" fn hibernaxo_clean(bytes: &[u8], out: &mut [u8], values: &mut [u6
 // A recording purged in its buffer: bytes in use.
 #[unsafe(no_mangle)]
 pub extern "C" fn hibernaxo_purge(buffer: &mut [u8], sheet: &[u8], values: &mut [u64; 2]) -> u32
-    ensures { (result, values.new, buffer.new) ≡ writtenTold (purging.purge buffer.old sheet.now) }
+    ensures { (result, values.new, buffer.new) ≡ written_told (purging.purge buffer.old sheet.now) }
 {
     let a = purge::purge(buffer, sheet);
     put_written(a, values)
@@ -196,7 +196,7 @@ pub extern "C" fn hibernaxo_purge(buffer: &mut [u8], sheet: &[u8], values: &mut 
 
 // What cutting answered.
 fn put_cut(a: Fragmented, values: &mut [u64; 3]) -> u32
-    ensures { (result, values.new) ≡ cutValues (cutNumbers a) }
+    ensures { (result, values.new) ≡ cut_values (cut_numbers a) }
 {
     match a {
         Fragmented::Done { bytes, fragments } => {
@@ -218,7 +218,7 @@ pub extern "C" fn hibernaxo_cut(
     out: &mut [u8],
     values: &mut [u64; 3],
 ) -> u32
-    ensures { (result, values.new, out.new) ≡ cutTold (cutter size message.now out.old) }
+    ensures { (result, values.new, out.new) ≡ cut_told (cutter size message.now out.old) }
 {
     let a = fragments::cut(message, size, out);
     put_cut(a, values)
@@ -227,7 +227,7 @@ pub extern "C" fn hibernaxo_cut(
 // Fragments joined, or one whole message cleaned: bytes.
 #[unsafe(no_mangle)]
 pub extern "C" fn hibernaxo_join(fragments: &[u8], out: &mut [u8], values: &mut [u64; 2]) -> u32
-    ensures { (result, values.new, out.new) ≡ writtenTold (joiner fragments.now out.old) }
+    ensures { (result, values.new, out.new) ≡ written_told (joiner fragments.now out.old) }
 {
     let a = fragments::join(fragments, out);
     put_written(a, values)
@@ -245,7 +245,7 @@ fn put_two(values: &mut [u64; 290], at: usize, a: u32, b: u32)
 // The nine values of row i, behind the place and the number of rows.
 fn put_row(values: &mut [u64; 290], i: usize, row: Row)
     requires { i < 32 }
-    ensures { values.new ≡ sets values.old (2 + 9 * i) (rowValues (row_in row)) }
+    ensures { values.new ≡ sets values.old (2 + 9 * i) (row_values (row_in row)) }
 {
     let at = 2 + 9 * i;
     let start = row.start;
@@ -258,7 +258,7 @@ fn put_row(values: &mut [u64; 290], i: usize, row: Row)
 }
 
 fn put_rows(values: &mut [u64; 290], rows: [Row; 32])
-    ensures { values.new ≡ sets values.old 2 (join (map rowValues (map row_in rows))) }
+    ensures { values.new ≡ sets values.old 2 (join (map row_values (map row_in rows))) }
 {
     let mut i = 0;
     while i < 32 {
@@ -271,7 +271,7 @@ fn put_rows(values: &mut [u64; 290], rows: [Row; 32])
 // An order sheet: how many rows, and nine values for each of 32 rows.
 #[unsafe(no_mangle)]
 pub extern "C" fn hibernaxo_sheet(sheet: &[u8], values: &mut [u64; 290]) -> u32
-    ensures { (result, values.new) ≡ sheetTold (sheetRows sheet.now) }
+    ensures { (result, values.new) ≡ sheet_told (sheet_rows sheet.now) }
 {
     let read = sheet::read_sheet(sheet);
     let answer = read.answer;
@@ -292,7 +292,7 @@ pub extern "C" fn hibernaxo_sheet(sheet: &[u8], values: &mut [u64; 290]) -> u32
 
 // What measuring and writing answered.
 fn put_answer(a: Answer, values: &mut [u64; 4]) -> u32
-    ensures { (result, values.new) ≡ answerValues (release.numbers a) }
+    ensures { (result, values.new) ≡ answer_values (release.numbers a) }
 {
     match a {
         Answer::Totals(t) => {
@@ -313,7 +313,7 @@ pub extern "C" fn hibernaxo_copy_measure(
     sheet: &[u8],
     values: &mut [u64; 4],
 ) -> u32
-    ensures { (result, values.new) ≡ answerValues (measurement recording.now sheet.now) }
+    ensures { (result, values.new) ≡ answer_values (measurement recording.now sheet.now) }
 {
     let a = release::measure(recording, sheet);
     put_answer(a, values)
@@ -327,7 +327,7 @@ pub extern "C" fn hibernaxo_copy_write(
     out: &mut [u8],
     values: &mut [u64; 4],
 ) -> u32
-    ensures { (result, values.new, out.new) ≡ copyTold (copy recording.now sheet.now out.old) }
+    ensures { (result, values.new, out.new) ≡ copy_told (copy recording.now sheet.now out.old) }
 {
     let a = release::write(recording, sheet, out);
     put_answer(a, values)
@@ -336,7 +336,7 @@ pub extern "C" fn hibernaxo_copy_write(
 // 64 numbers of a state's array, from a place on.
 fn part_of(state: &[u32; 129], at: usize) -> [u32; 64]
     requires { at ≤ 65 }
-    ensures { result ≡ numbersFrom 64 at state.now }
+    ensures { result ≡ numbers_from 64 at state.now }
 {
     let mut part = [0u32; 64];
     let mut i = 0;
@@ -366,7 +366,7 @@ fn wide(x: u32) -> usize
 
 // The state that an array stands for: how many ids are held, then 64 ids, then beside each its next number.
 fn state_in(state: &[u32; 129]) -> State
-    ensures { stateIn result ≡ stateAt state.now }
+    ensures { state_in result ≡ state_at state.now }
 {
     let ids = part_of(state, 1);
     let next = part_of(state, 65);
@@ -375,7 +375,7 @@ fn state_in(state: &[u32; 129]) -> State
 }
 
 fn put_state(state: &mut [u32; 129], after: State)
-    ensures { state.new ≡ stateValues (stateIn after) }
+    ensures { state.new ≡ state_values (state_in after) }
 {
     let ids = after.ids;
     let next = after.next;
@@ -387,7 +387,7 @@ fn put_state(state: &mut [u32; 129], after: State)
 
 // What a step answered.
 fn put_reply(a: Reply, values: &mut [u64; 6]) -> u32
-    ensures { (result, values.new) ≡ reportValues (report a) }
+    ensures { (result, values.new) ≡ report_values (report a) }
 {
     match a {
         Reply::Done(p) => {
@@ -418,7 +418,7 @@ pub extern "C" fn hibernaxo_step(
     out: &mut [u8],
     values: &mut [u64; 6],
 ) -> u32
-    ensures { (result, values.new, state.new, out.new) ≡ steppedTold (rule.step input.now sheet.now quota (stateAt state.old) out.old) }
+    ensures { (result, values.new, state.new, out.new) ≡ stepped_told (rule.step input.now sheet.now quota (state_at state.old) out.old) }
 {
     let before = state_in(state);
     let done = step::step(input, sheet, quota, before, out);
@@ -431,7 +431,7 @@ pub extern "C" fn hibernaxo_step(
 // A buffer randomized.
 #[unsafe(no_mangle)]
 pub extern "C" fn hibernaxo_randomize(buf: &mut [u8], values: &mut [u64; 1]) -> u32
-    ensures { (result, values.new, buf.new) ≡ randomizedTold (randomizer buf.old) }
+    ensures { (result, values.new, buf.new) ≡ randomized_told (randomizer buf.old) }
 {
     match burst::randomize(buf) {
         Randomized::Done => {
@@ -448,7 +448,7 @@ pub extern "C" fn hibernaxo_randomize(buf: &mut [u8], values: &mut [u64; 1]) -> 
 // A burst opened: codeblocks.
 #[unsafe(no_mangle)]
 pub extern "C" fn hibernaxo_open_burst(buf: &mut [u8], values: &mut [u64; 2]) -> u32
-    ensures { (result, values.new, buf.new) ≡ openedTold (opener buf.old) }
+    ensures { (result, values.new, buf.new) ≡ opened_told (opener buf.old) }
 {
     match burst::open_burst(buf) {
         Opened::Done { blocks } => {
@@ -465,7 +465,7 @@ pub extern "C" fn hibernaxo_open_burst(buf: &mut [u8], values: &mut [u64; 2]) ->
 // First and last of range i, behind the place and the number of ranges.
 fn put_range(values: &mut [u64; 66], i: usize, range: IdRange)
     requires { i < 32 }
-    ensures { values.new ≡ sets values.old (2 + 2 * i) (rangeValues (rangeIn range)) }
+    ensures { values.new ≡ sets values.old (2 + 2 * i) (range_values (range_in range)) }
 {
     let at = 2 + 2 * i;
     values[at] = range.first as u64;
@@ -473,7 +473,7 @@ fn put_range(values: &mut [u64; 66], i: usize, range: IdRange)
 }
 
 fn put_ranges(values: &mut [u64; 66], ranges: [IdRange; 32])
-    ensures { values.new ≡ sets values.old 2 (join (map rangeValues (map rangeIn ranges))) }
+    ensures { values.new ≡ sets values.old 2 (join (map range_values (map range_in ranges))) }
 {
     let mut i = 0;
     while i < 32 {
@@ -486,7 +486,7 @@ fn put_ranges(values: &mut [u64; 66], ranges: [IdRange; 32])
 // A line of ids: how many ranges, and first and last of 32 ranges.
 #[unsafe(no_mangle)]
 pub extern "C" fn hibernaxo_read_ids(line: &[u8], values: &mut [u64; 66]) -> u32
-    ensures { (result, values.new) ≡ idsTold (readIds line.now) }
+    ensures { (result, values.new) ≡ ids_told (read_ids line.now) }
 {
     let read = ids::read_ids(line);
     let answer = read.answer;
@@ -513,7 +513,7 @@ pub extern "C" fn hibernaxo_write_ids(
     out: &mut [u8],
     values: &mut [u64; 2],
 ) -> u32
-    ensures { (result, values.new, out.new) ≡ writtenTold (writeIds (handedOver count (rangesIn 32 ends.now)) out.old) }
+    ensures { (result, values.new, out.new) ≡ written_told (write_ids (handed_over count (ranges_in 32 ends.now)) out.old) }
 {
     let a = ids::write_ends(ends, count, out);
     put_written(a, values)
@@ -522,7 +522,7 @@ pub extern "C" fn hibernaxo_write_ids(
 // Start and length of stretch i, behind the place, the two counts and the number of stretches.
 fn put_stretch(values: &mut [u64; 132], i: usize, stretch: Stretch)
     requires { i < 64 }
-    ensures { values.new ≡ sets values.old (4 + 2 * i) (stretchValues (salvaged.stretchIn stretch)) }
+    ensures { values.new ≡ sets values.old (4 + 2 * i) (stretch_values (salvaged.stretch_in stretch)) }
 {
     let at = 4 + 2 * i;
     values[at] = stretch.start as u64;
@@ -530,7 +530,7 @@ fn put_stretch(values: &mut [u64; 132], i: usize, stretch: Stretch)
 }
 
 fn put_stretches(values: &mut [u64; 132], stretches: [Stretch; 64])
-    ensures { (values.new ≡ sets values.old 4 (join (map stretchValues (map salvaged.stretchIn stretches)))) × (length stretches ≡ 64) }
+    ensures { (values.new ≡ sets values.old 4 (join (map stretch_values (map salvaged.stretch_in stretches)))) × (length stretches ≡ 64) }
 {
     let mut i = 0;
     while i < 64 {
@@ -542,7 +542,7 @@ fn put_stretches(values: &mut [u64; 132], stretches: [Stretch; 64])
 
 // What a salvage answered.
 fn put_salvaged(a: Salvaged, values: &mut [u64; 132]) -> u32
-    ensures { (result, values.new) ≡ salvageValues (salvaged.report a) }
+    ensures { (result, values.new) ≡ salvage_values (salvaged.report a) }
 {
     let answer = a.answer;
     let stretches = a.stretches;
@@ -569,7 +569,7 @@ pub extern "C" fn hibernaxo_salvage(
     out: &mut [u8],
     values: &mut [u64; 132],
 ) -> u32
-    ensures { (result, values.new, out.new) ≡ salvageTold (salvage.salvage recording.now out.old) }
+    ensures { (result, values.new, out.new) ≡ salvage_told (salvage.salvage recording.now out.old) }
 {
     let a = salvage::salvage(recording, out);
     put_salvaged(a, values)
@@ -577,7 +577,7 @@ pub extern "C" fn hibernaxo_salvage(
 
 // What reading a capture answered.
 fn put_counts(a: CaptureRead, values: &mut [u64; 6]) -> u32
-    ensures { (result, values.new) ≡ readValues (numbersRead a) }
+    ensures { (result, values.new) ≡ read_values (numbers_read a) }
 {
     match a {
         CaptureRead::Done(t) => {
@@ -606,7 +606,7 @@ pub extern "C" fn hibernaxo_read_capture(
     out: &mut [u8],
     values: &mut [u64; 6],
 ) -> u32
-    ensures { (result, values.new, out.new) ≡ readTold (readCapture file.now port out.old) }
+    ensures { (result, values.new, out.new) ≡ read_told (read_capture file.now port out.old) }
 {
     let a = capture::read_capture(file, port, out);
     put_counts(a, values)
@@ -614,7 +614,7 @@ pub extern "C" fn hibernaxo_read_capture(
 
 // What writing a capture answered.
 fn put_sent(a: CaptureWritten, values: &mut [u64; 3]) -> u32
-    ensures { (result, values.new) ≡ sentValues (numbersWritten a) }
+    ensures { (result, values.new) ≡ sent_values (numbers_written a) }
 {
     match a {
         CaptureWritten::Done { bytes, messages } => {
@@ -636,7 +636,7 @@ pub extern "C" fn hibernaxo_write_capture(
     out: &mut [u8],
     values: &mut [u64; 3],
 ) -> u32
-    ensures { (result, values.new, out.new) ≡ sentTold (writeCapture recording.now port out.old) }
+    ensures { (result, values.new, out.new) ≡ sent_told (write_capture recording.now port out.old) }
 {
     let a = capture::write_capture(recording, port, out);
     put_sent(a, values)
@@ -645,7 +645,7 @@ pub extern "C" fn hibernaxo_write_capture(
 // A radio message: destination, source, sequence number, and how many TLVs it has.
 #[unsafe(no_mangle)]
 pub extern "C" fn hibernaxo_read_radio(bytes: &[u8], values: &mut [u64; 5]) -> u32
-    ensures { (result, values.new) ≡ radios.radioTold (radioRead bytes.now) }
+    ensures { (result, values.new) ≡ radios.radio_told (radio_read bytes.now) }
 {
     match radio::read(bytes) {
         RadioRead::Message { head, tlvs } => {
@@ -667,7 +667,7 @@ pub extern "C" fn hibernaxo_read_radio(bytes: &[u8], values: &mut [u64; 5]) -> u
 
 // The values of a TLV of each type, with the place behind it.
 fn opportunity_values(t: TxOp, next: u64) -> [u64; 14]
-    ensures { result ≡ radios.opportunityValues t next }
+    ensures { result ≡ radios.opportunity_values t next }
 {
     [
         0,
@@ -688,13 +688,13 @@ fn opportunity_values(t: TxOp, next: u64) -> [u64; 14]
 }
 
 fn heartbeat_values(t: Heartbeat, next: u64) -> [u64; 14]
-    ensures { result ≡ radios.heartbeatValues t next }
+    ensures { result ≡ radios.heartbeat_values t next }
 {
     [0, 5, next, t.timeout as u64, 0, 0, 0, 0, 0, 0, 0, 0, 0, 0]
 }
 
 fn metric_values(t: LinkMetric, next: u64) -> [u64; 14]
-    ensures { result ≡ radios.metricValues t next }
+    ensures { result ≡ radios.metric_values t next }
 {
     let rssi = radio::byte_of(t.rssi);
     let cinr = radio::byte_of(t.cinr);
@@ -717,7 +717,7 @@ fn metric_values(t: LinkMetric, next: u64) -> [u64; 14]
 }
 
 fn report_values(t: QueueReport, next: u64) -> [u64; 14]
-    ensures { result ≡ radios.reportValues t next }
+    ensures { result ≡ radios.report_values t next }
 {
     [
         0,
@@ -738,7 +738,7 @@ fn report_values(t: QueueReport, next: u64) -> [u64; 14]
 }
 
 fn tlv_values(t: Tlv, next: u64) -> [u64; 14]
-    ensures { result ≡ radios.tlvValues t next }
+    ensures { result ≡ radios.tlv_values t next }
 {
     match t {
         Tlv::TxOp(x) => opportunity_values(x, next),
@@ -751,7 +751,7 @@ fn tlv_values(t: Tlv, next: u64) -> [u64; 14]
 // A step over the TLVs of a radio message: a TLV's type, or 0 at the end, the next place, and its fields.
 #[unsafe(no_mangle)]
 pub extern "C" fn hibernaxo_radio_tlv(bytes: &[u8], at: usize, values: &mut [u64; 14]) -> u32
-    ensures { (result, values.new) ≡ radios.tlvTold at (tlvAt bytes.now at) }
+    ensures { (result, values.new) ≡ radios.tlv_told at (tlv_at bytes.now at) }
 {
     let place = at as u64;
     match radio::tlv_at(bytes, at) {
@@ -779,7 +779,7 @@ enum Handed {
 
 // No field is above its bound.
 fn all_within(fields: &[u64; 11], bounds: [u64; 11]) -> bool
-    ensures { result ≡ radios.allWithin 11 0 fields.now bounds }
+    ensures { result ≡ radios.all_within 11 0 fields.now bounds }
 {
     let mut i = 0;
     while i < 11 {
@@ -793,7 +793,7 @@ fn all_within(fields: &[u64; 11], bounds: [u64; 11]) -> bool
 
 // A TLV of each type from its fields, if they fit their bits. Whatever stands behind them is not looked at.
 fn opportunity_in(fields: &[u64; 11]) -> Handed
-    ensures { result ≡ radios.opportunityIn fields.now }
+    ensures { result ≡ radios.opportunity_in fields.now }
 {
     let any = 18446744073709551615;
     let bounds = [
@@ -812,7 +812,7 @@ fn opportunity_in(fields: &[u64; 11]) -> Handed
 }
 
 fn heartbeat_in(fields: &[u64; 11]) -> Handed
-    ensures { result ≡ radios.heartbeatIn fields.now }
+    ensures { result ≡ radios.heartbeat_in fields.now }
 {
     let any = 18446744073709551615;
     let bounds = [65535, any, any, any, any, any, any, any, any, any, any];
@@ -825,7 +825,7 @@ fn heartbeat_in(fields: &[u64; 11]) -> Handed
 }
 
 fn metric_in(fields: &[u64; 11]) -> Handed
-    ensures { result ≡ radios.metricIn fields.now }
+    ensures { result ≡ radios.metric_in fields.now }
 {
     let any = 18446744073709551615;
     let bounds = [
@@ -847,7 +847,7 @@ fn metric_in(fields: &[u64; 11]) -> Handed
 }
 
 fn report_in(fields: &[u64; 11]) -> Handed
-    ensures { result ≡ radios.reportIn fields.now }
+    ensures { result ≡ radios.report_in fields.now }
 {
     let bounds = [
         255, 4294967295, 4294967295, 65535, 65535, 65535, 65535, 65535, 65535, 65535, 65535,
@@ -889,7 +889,7 @@ fn tlv_in(kind: u32, fields: &[u64; 11]) -> Handed
 }
 
 fn put_handed(t: Handed, out: &mut [u8], at: usize) -> Written
-    ensures { told result out.new ≡ radios.handedPut t at out.old }
+    ensures { told result out.new ≡ radios.handed_put t at out.old }
 {
     match t {
         Handed::Tlv(x) => radio::put_tlv(x, out, at),
@@ -909,7 +909,7 @@ pub extern "C" fn hibernaxo_put_radio_tlv(
     at: usize,
     values: &mut [u64; 2],
 ) -> u32
-    ensures { (result, values.new, out.new) ≡ writtenTold (radios.handedPut (radios.handed kind fields.now) at out.old) }
+    ensures { (result, values.new, out.new) ≡ written_told (radios.handed_put (radios.handed kind fields.now) at out.old) }
 {
     let t = tlv_in(kind, fields);
     let a = put_handed(t, out, at);
@@ -926,7 +926,7 @@ pub extern "C" fn hibernaxo_write_radio(
     out: &mut [u8],
     values: &mut [u64; 2],
 ) -> u32
-    ensures { (result, values.new, out.new) ≡ writtenTold (radioWriter (record { destination = destination; source = source; sequence = sequence }) run.now out.old) }
+    ensures { (result, values.new, out.new) ≡ written_told (radio_writer (record { destination = destination; source = source; sequence = sequence }) run.now out.old) }
 {
     let head = Head {
         destination,
@@ -968,7 +968,7 @@ pub extern "C" fn hibernaxo_link_row(
     kinds: &mut [u8; 3],
     values: &mut [f64; 4],
 )
-    ensures { (kinds.new, values.new) ≡ radios.rowTold (linkRow (record { seconds = 0; micros = 0; frequency = frequency; rssi = rssi; cinr = cinr; errors = errors })) }
+    ensures { (kinds.new, values.new) ≡ radios.row_told (link_row (record { seconds = 0; micros = 0; frequency = frequency; rssi = rssi; cinr = cinr; errors = errors })) }
 {
     let row = radio::row_of(LinkMetric {
         seconds: 0,

@@ -12,45 +12,45 @@ use lib.ListN.{length, take, drop, length-append, length-map, take-append-drop}
 use lib.Seq.{take-append_seam, take-append-add, take-take}
 use Rattle.rules.specs.Outcome.{Outcome, good, bad}
 use Rattle.rules.specs.Items.{All, all_nil, all_cons}
-use Rattle.rules.specs.Message.{mostBytes}
+use Rattle.rules.specs.Message.{most_bytes}
 use Rattle.refusal.specs.Numbers.{TEXT}
-use Rattle.rules.proofs.Outcomes.{pass, passed, halt, step, stepped, stop, good-inj, bad-inj, good≢bad, refused-at, refused-step, came-after, refused-checks}
-use Rattle.rules.proofs.Kept.{careful-stored, roomless, writes}
+use Rattle.rules.proofs.Outcomes.{pass, passed, halt, step, stepped, stop, good_inj, bad_inj, good≢bad, refused-at, refused-step, came_after, refused-checks}
+use Rattle.rules.proofs.Kept.{careful_stored, roomless, writes}
 use Rattle.ids.specs.Line.{Item, Reads, IsList, alone, followed}
-use Rattle.ids.specs.Reader.{listAt, rangesOf, idRanges, Range}
+use Rattle.ids.specs.Reader.{list_at, ranges_of, id_ranges, Range}
 use Rattle.ids.specs.Claims.{OneReading, Accepted, ReadExactly, Begins, Breaks, Faulty, Refused, large, form, fault, RefusedExactly, NoLeadingZeros, SingleWhereEqual, RangeFits, Writable, WrittenExactly, WrittenRead, ReadWritten, PlainShortest, Ordered, Fits, range_of, FirstBad, Unwritten, none, bad-range, UnwrittenExactly, WriterWrites, BufferKept, LineShort}
 use Rattle.ids.specs.Worked.{Worked}
-use Rattle.ids.specs.Writer.{lineText, rangesKept, line_of, writeIds}
-use Rattle.ids.proofs.Lines.{plain, text-single, text-range, Said, said, Good, kept-good, kept-complete, BadFrom, kept-bad, bad-kept, line-of-bad, line-of-good, line-short, line-shortest}
-use Rattle.ids.proofs.Lists.{Broken, ListView, whole, broken, list-view, list-complete}
+use Rattle.ids.specs.Writer.{line_text, ranges_kept, line_of, write_ids}
+use Rattle.ids.proofs.Lines.{plain, text-single, text-range, Said, said, Good, kept-good, kept-complete, BadFrom, kept-bad, bad-kept, line_of-bad, line_of-good, line-short, line_shortest}
+use Rattle.ids.proofs.Lists.{Broken, ListView, whole, broken, list_view, list-complete}
 use Rattle.ids.proofs.Ranges.{Kept, ranges-good, ranges-complete, FaultyFrom, ranges-bad, ranges-faulty}
-use Rattle.ids.proofs.Worked.{worked-out}
+use Rattle.ids.proofs.Worked.{worked_out}
 
 pub one-reading : OneReading
-one-reading s is js a b = good-inj (sym (list-complete a) ∙ list-complete b)
+one-reading s is js a b = good_inj (sym (list-complete a) ∙ list-complete b)
 
 -- what is read whole is a line
-reads_whole : (s : List ℕ) (is : List Item) → listAt 0 0 s ≡ good is → Reads s is
-reads_whole s is e = go (list-view 0 s)
+reads_whole : (s : List ℕ) (is : List Item) → list_at 0 0 s ≡ good is → Reads s is
+reads_whole s is e = go (list_view 0 s)
   where
     go : ListView 0 s → Reads s is
-    go (whole {is = js} f l) = subst (Reads s) (good-inj (sym f ∙ e)) l
+    go (whole {is = js} f l) = subst (Reads s) (good_inj (sym f ∙ e)) l
     go (broken f b) = absurd (good≢bad (sym f ∙ e))
 
-accepted : (s : List ℕ) (rs : List Range) → idRanges s ≡ good rs → Accepted s rs
-unfolding idRanges
+accepted : (s : List ℕ) (rs : List Range) → id_ranges s ≡ good rs → Accepted s rs
+unfolding id_ranges
 accepted s rs e =
     let (t, e) = passed _ _ _ _ e in
     let (is, f, g) = stepped _ _ e in
     go (ltb-false _ _ t) is (reads_whole s is f) (ranges-good 0 is rs (omega arith) g)
   where
-    go : length s ≤ mostBytes → (is : List Item) → Reads s is → Kept 0 is rs → Accepted s rs
+    go : length s ≤ most_bytes → (is : List Item) → Reads s is → Kept 0 is rs → Accepted s rs
     go l is r k = record { small = l; items = is; reads = r; fit = k.fit; few = omega (arith, k.few); ranges = k.ranges }
 
-accepts : (s : List ℕ) (rs : List Range) → Accepted s rs → idRanges s ≡ good rs
-unfolding idRanges
+accepts : (s : List ℕ) (rs : List Range) → Accepted s rs → id_ranges s ≡ good rs
+unfolding id_ranges
 accepts s rs a =
-    pass _ _ _ _ (le-ltb mostBytes (length s) a.small) (step _ _ (list-complete a.reads) (ranges-complete 0 a.fit (omega (arith, a.few)) ∙ ap good a.ranges))
+    pass _ _ _ _ (le-ltb most_bytes (length s) a.small) (step _ _ (list-complete a.reads) (ranges-complete 0 a.fit (omega (arith, a.few)) ∙ ap good a.ranges))
 
 pub read-exactly : ReadExactly
 read-exactly s rs = (accepted s rs, accepts s rs)
@@ -64,7 +64,7 @@ module _ (s : List ℕ) (q : ℕ) (b : Broken 0 s q) (l : q ≡ length b.text) w
       good≢bad (sym (b.read y u t e) ∙ list-complete (subst (λ (z : List ℕ). Reads z is) k r))
 
 -- where a line is broken
-breaks : (s : List ℕ) (q : ℕ) → listAt 0 0 s ≡ bad TEXT q → Broken 0 s q → Breaks s q
+breaks : (s : List ℕ) (q : ℕ) → list_at 0 0 s ≡ bad TEXT q → Broken 0 s q → Breaks s q
 breaks s q e b =
     let l : q ≡ length b.text = b.place ∙ zero-add (length b.text) in
     let k : take q s ≡ b.text = rw (b.split, l) (take-append_seam b.text b.rest) in
@@ -75,8 +75,8 @@ breaks s q e b =
       unread = λ is r. good≢bad (sym e ∙ list-complete r);
     }
 
-refused-form : (s : List ℕ) {n p : ℕ} → listAt 0 0 s ≡ bad n p → (TEXT ≡ n) × Breaks s p
-refused-form s {n} {p} e = go (list-view 0 s)
+refused-form : (s : List ℕ) {n p : ℕ} → list_at 0 0 s ≡ bad n p → (TEXT ≡ n) × Breaks s p
+refused-form s {n} {p} e = go (list_view 0 s)
   where
     go : ListView 0 s → (TEXT ≡ n) × Breaks s p
     go (whole f l) = absurd (good≢bad (sym e ∙ f))
@@ -86,11 +86,11 @@ module _ (s : List ℕ) (n p : ℕ) where
   named : {m q : ℕ} → m ≡ n → q ≡ p → Refused s m q → Refused s n p
   named {m} {q} e f r = subst (λ (k : ℕ). Refused s k p) e (subst (Refused s m) f r)
 
-  in-form : length s ≤ mostBytes → (TEXT ≡ n) × Breaks s p → Refused s n p
-  in-form l (e, b) = named e refl (form l b)
+  in_form : length s ≤ most_bytes → (TEXT ≡ n) × Breaks s p → Refused s n p
+  in_form l (e, b) = named e refl (form l b)
 
-  in-items : length s ≤ mostBytes → (is : List Item) → Reads s is → (TEXT ≡ n) × FaultyFrom 0 is p → Refused s n p
-  in-items l is r (e, f) = named e refl (fault l r (record {
+  in_items : length s ≤ most_bytes → (is : List Item) → Reads s is → (TEXT ≡ n) × FaultyFrom 0 is p → Refused s n p
+  in_items l is r (e, f) = named e refl (fault l r (record {
     before = f.before;
     item = f.item;
     behind = f.behind;
@@ -101,13 +101,13 @@ module _ (s : List ℕ) (n p : ℕ) where
     place = f.place;
   }))
 
-refused : (s : List ℕ) (n p : ℕ) → idRanges s ≡ bad n p → Refused s n p
-unfolding idRanges
+refused : (s : List ℕ) (n p : ℕ) → id_ranges s ≡ bad n p → Refused s n p
+unfolding id_ranges
 refused s n p e = ⊎_elim
     (λ z. named s n p z.1 z.2 (large (ltb-true _ _ z.0)))
     (λ z. ⊎_elim
-    (λ f. in-form s n p (ltb-false _ _ z.0) (refused-form s f))
-    (λ f. in-items s n p (ltb-false _ _ z.0) f.0 (reads_whole s f.0 f.1) (ranges-bad 0 f.0 (omega arith) f.2))
+    (λ f. in_form s n p (ltb-false _ _ z.0) (refused-form s f))
+    (λ f. in_items s n p (ltb-false _ _ z.0) f.0 (reads_whole s f.0 f.1) (ranges-bad 0 f.0 (omega arith) f.2))
     (refused-step _ _ z.1))
     (refused-at _ _ _ _ e)
 
@@ -122,77 +122,77 @@ module _ (s : List ℕ) where
   not_earlier : (p q : ℕ) → Breaks s p → Breaks s q → p < q → ⊥
   not_earlier p q a b l = a.here (omega (arith, b.inside)) (begins-before (p + 1) q (omega arith) b.before)
 
-  breaks-once : (p q : ℕ) → Breaks s p → Breaks s q → p ≡ q
-  breaks-once p q a b = go (ltb p q) refl (ltb q p) refl
+  breaks_once : (p q : ℕ) → Breaks s p → Breaks s q → p ≡ q
+  breaks_once p q a b = go (ltb p q) refl (ltb q p) refl
     where
       go : (x : Bool) → ltb p q ≡ x → (y : Bool) → ltb q p ≡ y → p ≡ q
       go true e y f = absurd (not_earlier p q a b (ltb-true _ _ e))
       go false e true f = absurd (not_earlier q p b a (ltb-true _ _ f))
       go false e false f = omega (arith, ltb-false p q e, ltb-false q p f)
 
-  broken-there : (p : ℕ) → Breaks s p → listAt 0 0 s ≡ bad TEXT p
-  broken-there p b = go (list-view 0 s)
+  broken-there : (p : ℕ) → Breaks s p → list_at 0 0 s ≡ bad TEXT p
+  broken-there p b = go (list_view 0 s)
     where
-      go : ListView 0 s → listAt 0 0 s ≡ bad TEXT p
+      go : ListView 0 s → list_at 0 0 s ≡ bad TEXT p
       go (whole {is = is} f l) = absurd (b.unread is l)
-      go (broken {q = q} f c) = f ∙ ap (bad TEXT) (breaks-once q p (breaks s q f c) b)
+      go (broken {q = q} f c) = f ∙ ap (bad TEXT) (breaks_once q p (breaks s q f c) b)
 
-  faulty-there : {is : List Item} {p : ℕ} → Faulty is p → rangesOf 0 is ≡ bad TEXT p
+  faulty-there : {is : List Item} {p : ℕ} → Faulty is p → ranges_of 0 is ≡ bad TEXT p
   faulty-there f = rw (f.split, ← f.place) (ranges-faulty 0 f.item f.behind f.fit (rw zero-add f.few) (rw zero-add f.fault))
 
-  refuses : {n p : ℕ} → Refused s n p → idRanges s ≡ bad n p
-  unfolding idRanges
-  refuses (large h) = halt _ _ _ _ (lt-ltb mostBytes (length s) h)
-  refuses (form {p = p} l b) = pass _ _ _ _ (le-ltb mostBytes (length s) l) (stop _ _ (broken-there p b))
-  refuses (fault l r f) = pass _ _ _ _ (le-ltb mostBytes (length s) l) (step _ _ (list-complete r) (faulty-there f))
+  refuses : {n p : ℕ} → Refused s n p → id_ranges s ≡ bad n p
+  unfolding id_ranges
+  refuses (large h) = halt _ _ _ _ (lt-ltb most_bytes (length s) h)
+  refuses (form {p = p} l b) = pass _ _ _ _ (le-ltb most_bytes (length s) l) (stop _ _ (broken-there p b))
+  refuses (fault l r f) = pass _ _ _ _ (le-ltb most_bytes (length s) l) (step _ _ (list-complete r) (faulty-there f))
 
 pub refused-exactly : RefusedExactly
 refused-exactly s n p = (refused s n p, refuses s)
 
 -- ---- Writing
 
-pub no-leading-zeros : NoLeadingZeros
-no-leading-zeros n h = plain n h
+pub no_leading_zeros : NoLeadingZeros
+no_leading_zeros n h = plain n h
 
-pub single-where-equal : SingleWhereEqual
-single-where-equal = record { single = text-single; range = text-range }
+pub single_where_equal : SingleWhereEqual
+single_where_equal = record { single = text-single; range = text-range }
 
 -- what is written was good
-written-good : (rs : List Range) (s : List ℕ) → line_of rs ≡ good s → Good 0 rs × (lineText rs ≡ s)
+written-good : (rs : List Range) (s : List ℕ) → line_of rs ≡ good s → Good 0 rs × (line_text rs ≡ s)
 unfolding line_of
 written-good [] s e = absurd (good≢bad e)
-written-good (r ∷ rs) s e = let (k, e) = came-after _ _ e in (kept-good 0 (r ∷ rs) (omega arith) k, good-inj e)
+written-good (r ∷ rs) s e = let (k, e) = came_after _ _ e in (kept-good 0 (r ∷ rs) (omega arith) k, good_inj e)
 
-writable-line : (rs : List Range) → Writable rs → line_of rs ≡ good (lineText rs)
-writable-line rs w = line-of-good rs w.some (kept-complete 0 w.ordered (omega (arith, w.few)))
+writable_line : (rs : List Range) → Writable rs → line_of rs ≡ good (line_text rs)
+writable_line rs w = line_of-good rs w.some (kept-complete 0 w.ordered (omega (arith, w.few)))
 
 written-some : (rs : List Range) (s : List ℕ) → line_of rs ≡ good s → 1 ≤ length rs
 unfolding line_of
 written-some [] s e = absurd (good≢bad e)
 written-some (r ∷ rs) s e = omega arith
 
-was-writable : (rs : List Range) (s : List ℕ) → line_of rs ≡ good s → Writable rs × (lineText rs ≡ s)
-was-writable rs s e =
+was_writable : (rs : List Range) (s : List ℕ) → line_of rs ≡ good s → Writable rs × (line_text rs ≡ s)
+was_writable rs s e =
     let (g, q) = written-good rs s e in
     (record { some = written-some rs s e; few = omega (arith, g.few); ordered = g.ordered }, q)
 
 pub written-exactly : WrittenExactly
-written-exactly rs s = (was-writable rs s, λ w. writable-line rs w.0 ∙ ap good w.1)
+written-exactly rs s = (was_writable rs s, λ w. writable_line rs w.0 ∙ ap good w.1)
 
-short-line : (rs : List Range) (s : List ℕ) → All RangeFits rs → Good 0 rs × (lineText rs ≡ s) → length s ≤ 703
-unfolding lineText
+short-line : (rs : List Range) (s : List ℕ) → All RangeFits rs → Good 0 rs × (line_text rs ≡ s) → length s ≤ 703
+unfolding line_text
 short-line [] s f (g, e) = rw (← e) (omega arith)
 short-line (r ∷ rs) s (all_cons f fs) (g, e) = rw (← e) (omega (arith, line-short r f fs, g.few))
 
 pub line-is-short : LineShort
 line-is-short rs s f e = short-line rs s f (written-good rs s e)
 
-read_back : (rs : List Range) (s : List ℕ) → All RangeFits rs → Good 0 rs × (lineText rs ≡ s) → line_of rs ≡ good s → Accepted s rs
+read_back : (rs : List Range) (s : List ℕ) → All RangeFits rs → Good 0 rs × (line_text rs ≡ s) → line_of rs ≡ good s → Accepted s rs
 unfolding line_of
 read_back [] s f g e = absurd (good≢bad e)
 read_back (r ∷ rs) s (all_cons f fs) (g, q) e = go g.ordered
   where
-    line : Said 0 (r ∷ rs) (lineText (r ∷ rs)) → Accepted s (r ∷ rs)
+    line : Said 0 (r ∷ rs) (line_text (r ∷ rs)) → Accepted s (r ∷ rs)
     line d = record {
       small = omega (arith, short-line (r ∷ rs) s (all_cons f fs) (g, q));
       items = d.items;
@@ -230,11 +230,11 @@ ranges-fit (all_cons f fs) = all_cons (record { first = f.first; last = f.last }
 pub read-written : ReadWritten
 read-written s rs e =
     let a = accepted s rs e in
-    let w = writable-line rs (writable a) in
-    (w, written_read rs (lineText rs) (rw (← a.ranges) (ranges-fit a.fit)) w)
+    let w = writable_line rs (writable a) in
+    (w, written_read rs (line_text rs) (rw (← a.ranges) (ranges-fit a.fit)) w)
 
-pub plain-shortest : PlainShortest
-plain-shortest s rs e = let a = accepted s rs e in rw (← a.ranges) (line-shortest a.reads)
+pub plain_shortest : PlainShortest
+plain_shortest s rs e = let a = accepted s rs e in rw (← a.ranges) (line_shortest a.reads)
 
 unwritten_at : (rs : List Range) {m p : ℕ} → (TEXT ≡ m) × BadFrom 0 rs p → Unwritten rs m p
 unwritten_at rs {m} {p} (e, b) = subst (λ (k : ℕ). Unwritten rs k p) e (bad-range (record {
@@ -250,13 +250,13 @@ unwritten_at rs {m} {p} (e, b) = subst (λ (k : ℕ). Unwritten rs k p) e (bad-r
 
 unwritten : (rs : List Range) (n p : ℕ) → line_of rs ≡ bad n p → Unwritten rs n p
 unfolding line_of
-unwritten [] n p e = let (a, b) = bad-inj e in subst (λ (k : ℕ). Unwritten [] k p) a (subst (Unwritten [] TEXT) b none)
+unwritten [] n p e = let (a, b) = bad_inj e in subst (λ (k : ℕ). Unwritten [] k p) a (subst (Unwritten [] TEXT) b none)
 unwritten (r ∷ rs) n p e = unwritten_at (r ∷ rs) (kept-bad 0 (r ∷ rs) (omega arith) (refused-checks _ _ e))
 
 bad-there : (rs : List Range) {p : ℕ} → FirstBad rs p → line_of rs ≡ bad TEXT p
 bad-there rs {p} b =
-    let k : rangesKept 0 rs ≡ bad TEXT p = rw (b.split, ← b.index) (bad-kept 0 b.range b.behind b.ordered (rw zero-add b.few) (rw zero-add b.fault) ∙ ap (bad TEXT) (zero-add _)) in
-    line-of-bad rs (rw (b.split, length-append) (omega arith)) k
+    let k : ranges_kept 0 rs ≡ bad TEXT p = rw (b.split, ← b.index) (bad-kept 0 b.range b.behind b.ordered (rw zero-add b.few) (rw zero-add b.fault) ∙ ap (bad TEXT) (zero-add _)) in
+    line_of-bad rs (rw (b.split, length-append) (omega arith)) k
 
 unwrites : {rs : List Range} {n p : ℕ} → Unwritten rs n p → line_of rs ≡ bad n p
 unfolding line_of
@@ -266,13 +266,13 @@ unwrites (bad-range {rs = rs} b) = bad-there rs b
 pub unwritten-exactly : UnwrittenExactly
 unwritten-exactly rs n p = (unwritten rs n p, unwrites)
 
-pub writer-writes : WriterWrites
-unfolding writeIds
-writer-writes rs s e = record { room = λ buffer l. writes buffer s (line_of rs) e l; short = λ buffer l. roomless buffer s (line_of rs) e l }
+pub writer_writes : WriterWrites
+unfolding write_ids
+writer_writes rs s e = record { room = λ buffer l. writes buffer s (line_of rs) e l; short = λ buffer l. roomless buffer s (line_of rs) e l }
 
 pub buffer-kept : BufferKept
-unfolding writeIds
-buffer-kept rs buffer = careful-stored buffer _
+unfolding write_ids
+buffer-kept rs buffer = careful_stored buffer _
 
 pub worked : Worked
-worked = worked-out
+worked = worked_out

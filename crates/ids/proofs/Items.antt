@@ -16,8 +16,8 @@ use Rattle.rules.specs.Items.{all_nil, all_cons}
 use Rattle.refusal.specs.Numbers.{TEXT}
 use Rattle.rules.proofs.Outcomes.{step, stop}
 use Rattle.ids.specs.Line.{hyphen, decimal, IsId, Item, IsItem, single, range}
-use Rattle.ids.specs.Reader.{isDigit, itemBehind, item_at}
-use Rattle.ids.proofs.Digits.{NoDigit, Behind, id-good, id-bad, IdView, no-id, an-id, id-view}
+use Rattle.ids.specs.Reader.{is_digit, item_behind, item_at}
+use Rattle.ids.proofs.Digits.{NoDigit, Behind, id-good, id-bad, IdView, no_id, an_id, id_view}
 
 -- the byte behind d
 pub seam : (d u : List ℕ) → at (d ++ u) (length d) ≡ at u 0
@@ -31,10 +31,10 @@ item-none p s h = stop _ _ (id-bad p s h)
 module _ (p : ℕ) {d : List ℕ} (i : IsId d) where
   -- an item of one id, with no hyphen behind it
   pub item-single : (u : List ℕ) → Behind d u → eqb (at u 0) hyphen ≡ false → item_at p (d ++ u) ≡ good (record { place = p; first = decimal 0 d; last = decimal 0 d }, length d)
-  unfolding item_at itemBehind
+  unfolding item_at item_behind
   item-single u h e =
       let z : eqb (at (d ++ u) (length d)) hyphen ≡ false = ap (λ (x : ℕ). eqb x hyphen) (seam d u) ∙ e in
-      step _ _ (id-good p u i h) (rw (z, itemBehind))
+      step _ _ (id-good p u i h) (rw (z, item_behind))
 
   hyphened : (u : List ℕ) → eqb (at (d ++ hyphen ∷ u) (length d)) hyphen ≡ true
   hyphened u = ap (λ (x : ℕ). eqb x hyphen) (seam d (hyphen ∷ u))
@@ -43,15 +43,15 @@ module _ (p : ℕ) {d : List ℕ} (i : IsId d) where
   behind-it u = drop-append-add d (hyphen ∷ u) 1
 
   -- a hyphen behind the first id, and no second id
-  pub item-open : (u : List ℕ) → NoDigit u → item_at p (d ++ hyphen ∷ u) ≡ bad TEXT (p + length d + 1)
-  unfolding item_at itemBehind
-  item-open u h = step _ _ (id-good p (hyphen ∷ u) i (inr refl)) (rw (hyphened u, itemBehind) (stop _ _ (rw (behind-it u) (id-bad (p + length d + 1) u h))))
+  pub item_open : (u : List ℕ) → NoDigit u → item_at p (d ++ hyphen ∷ u) ≡ bad TEXT (p + length d + 1)
+  unfolding item_at item_behind
+  item_open u h = step _ _ (id-good p (hyphen ∷ u) i (inr refl)) (rw (hyphened u, item_behind) (stop _ _ (rw (behind-it u) (id-bad (p + length d + 1) u h))))
 
   -- two ids with a hyphen between
   pub item-range : {e : List ℕ} → IsId e → (u : List ℕ) → Behind e u
       → item_at p (d ++ hyphen ∷ (e ++ u)) ≡ good (record { place = p; first = decimal 0 d; last = decimal 0 e }, length d + 1 + length e)
-  unfolding item_at itemBehind
-  item-range {e} j u h = step _ _ (id-good p (hyphen ∷ (e ++ u)) i (inr refl)) (rw (hyphened (e ++ u), itemBehind) (step _ _ (rw (behind-it (e ++ u)) (id-good (p + length d + 1) u j h)) refl))
+  unfolding item_at item_behind
+  item-range {e} j u h = step _ _ (id-good p (hyphen ∷ (e ++ u)) i (inr refl)) (rw (hyphened (e ++ u), item_behind) (step _ _ (rw (behind-it (e ++ u)) (id-good (p + length d + 1) u j h)) refl))
 
 -- an item of the grammar, in front of what goes on with neither a digit nor a hyphen, is read
 pub item-complete : (p : ℕ) {s : List ℕ} {i : Item} (u : List ℕ) → IsItem p s i → NoDigit u → eqb (at u 0) hyphen ≡ false → item_at p (s ++ u) ≡ good (i, length s)
@@ -87,12 +87,12 @@ pub record Lost (p : ℕ) (s : List ℕ) : Type 0 where
 zero-id : IsId (0x30 ∷ [])
 zero-id = record { digits = all_cons {a = 0x30} (record { least = omega arith; most = omega arith }) all_nil; least = omega arith; most = omega arith }
 
-as-digit : (u v : List ℕ) → at v 0 ≡ at u 0 → NoDigit u → NoDigit v
-as-digit u v e h = ap isDigit e ∙ h
+as_digit : (u v : List ℕ) → at v 0 ≡ at u 0 → NoDigit u → NoDigit v
+as_digit u v e h = ap is_digit e ∙ h
 
-as-behind : (d u v : List ℕ) → at v 0 ≡ at u 0 → Behind d u → Behind d v
-as-behind d u v e (inl l) = inl l
-as-behind d u v e (inr h) = inr (as-digit u v e h)
+as_behind : (d u v : List ℕ) → at v 0 ≡ at u 0 → Behind d u → Behind d v
+as_behind d u v e (inl l) = inl l
+as_behind d u v e (inr h) = inr (as_digit u v e h)
 
 module _ (p : ℕ) where
   -- no id at all
@@ -103,7 +103,7 @@ module _ (p : ℕ) where
     item = record { place = p; first = decimal 0 (0x30 ∷ []); last = decimal 0 (0x30 ∷ []) };
     split = refl;
     goes = single zero-id;
-    read = λ v e. item-none p v (as-digit s v e h) ∙ ap (bad TEXT) (sym (add-zero p));
+    read = λ v e. item-none p v (as_digit s v e h) ∙ ap (bad TEXT) (sym (add-zero p));
   }
 
   -- a hyphen, and no second id
@@ -114,7 +114,7 @@ module _ (p : ℕ) where
     item = record { place = p; first = decimal 0 d; last = decimal 0 (0x30 ∷ []) };
     split = sym (append_assoc d (hyphen ∷ []) u);
     goes = rw (append_assoc d (hyphen ∷ []) (0x30 ∷ [])) (range i zero-id);
-    read = λ v e. rw (append_assoc d (hyphen ∷ []) v, length-append d (hyphen ∷ [])) (item-open p i v (as-digit u v e h) ∙ ap (bad TEXT) (add_assoc p (length d) 1));
+    read = λ v e. rw (append_assoc d (hyphen ∷ []) v, length-append d (hyphen ∷ [])) (item_open p i v (as_digit u v e h) ∙ ap (bad TEXT) (add_assoc p (length d) 1));
   }
 
   found-range : {d e : List ℕ} (u : List ℕ) → IsId d → IsId e → Behind e u → Found p (d ++ hyphen ∷ (e ++ u))
@@ -127,7 +127,7 @@ module _ (p : ℕ) where
         split = sym (append_assoc d (hyphen ∷ e) u);
         is = range i j;
         least = omega arith;
-        read = λ v q. rw (append_assoc d (hyphen ∷ e) v, l) (item-range p i j v (as-behind e u v q h));
+        read = λ v q. rw (append_assoc d (hyphen ∷ e) v, l) (item-range p i j v (as_behind e u v q h));
       }
 
   found-single : {d : List ℕ} (u : List ℕ) → IsId d → Behind d u → eqb (at u 0) hyphen ≡ false → Found p (d ++ u)
@@ -138,22 +138,22 @@ module _ (p : ℕ) where
     split = refl;
     is = single i;
     least = i.least;
-    read = λ v q. item-single p i v (as-behind d u v q h) (ap (λ (x : ℕ). eqb x hyphen) q ∙ n);
+    read = λ v q. item-single p i v (as_behind d u v q h) (ap (λ (x : ℕ). eqb x hyphen) q ∙ n);
   }
 
   second : {d : List ℕ} (u : List ℕ) → IsId d → IdView u → Found p (d ++ hyphen ∷ u) ⊎ Lost p (d ++ hyphen ∷ u)
-  second u i (no-id h) = inr (lost-second u i h)
-  second u i (an-id v j h) = inl (found-range v i j h)
+  second u i (no_id h) = inr (lost-second u i h)
+  second u i (an_id v j h) = inl (found-range v i j h)
 
-  hyphen-or-not : {d : List ℕ} (u : List ℕ) → IsId d → Behind d u → (b : Bool) → eqb (at u 0) hyphen ≡ b → Found p (d ++ u) ⊎ Lost p (d ++ u)
-  hyphen-or-not u i h false e = inl (found-single u i h e)
-  hyphen-or-not [] i h true e = absurd (omega (arith, eqb-true 0 hyphen e))
-  hyphen-or-not {d} (y ∷ u) i h true e = subst (λ (z : ℕ). Found p (d ++ z ∷ u) ⊎ Lost p (d ++ z ∷ u)) (sym (eqb-true y hyphen e)) (second u i (id-view u))
+  hyphen_or_not : {d : List ℕ} (u : List ℕ) → IsId d → Behind d u → (b : Bool) → eqb (at u 0) hyphen ≡ b → Found p (d ++ u) ⊎ Lost p (d ++ u)
+  hyphen_or_not u i h false e = inl (found-single u i h e)
+  hyphen_or_not [] i h true e = absurd (omega (arith, eqb-true 0 hyphen e))
+  hyphen_or_not {d} (y ∷ u) i h true e = subst (λ (z : ℕ). Found p (d ++ z ∷ u) ⊎ Lost p (d ++ z ∷ u)) (sym (eqb-true y hyphen e)) (second u i (id_view u))
 
   first-id : {s : List ℕ} → IdView s → Found p s ⊎ Lost p s
-  first-id (no-id h) = inr (lost-first _ h)
-  first-id (an-id u i h) = hyphen-or-not u i h (eqb (at u 0) hyphen) refl
+  first-id (no_id h) = inr (lost-first _ h)
+  first-id (an_id u i h) = hyphen_or_not u i h (eqb (at u 0) hyphen) refl
 
   -- at p an item is found, or none
-  pub item-view : (s : List ℕ) → Found p s ⊎ Lost p s
-  item-view s = first-id (id-view s)
+  pub item_view : (s : List ℕ) → Found p s ⊎ Lost p s
+  item_view s = first-id (id_view s)

@@ -12,80 +12,80 @@ use lib.ListN.{length}
 use Rattle.rules.specs.Outcome.{good, bad}
 use Rattle.rules.specs.Items.{All, all_nil, all_cons}
 use Rattle.refusal.specs.Numbers.{TEXT}
-use Rattle.rules.proofs.Outcomes.{pass, passed, halt, fronted, front_of, refused-at, refused-front, good≢bad, both, good-inj, stop-front}
+use Rattle.rules.proofs.Outcomes.{pass, passed, halt, fronted, front_of_lem, refused-at, refused-front, good≢bad, both, good_inj, stop_front}
 use Rattle.ids.specs.Line.{Item}
-use Rattle.ids.specs.Reader.{mostItems, itemFits, rangesOf, Range}
+use Rattle.ids.specs.Reader.{most_items, item_fits, ranges_of, Range}
 use Rattle.ids.specs.Claims.{Fits, range_of}
-use Rattle.ids.specs.Parts.{pairFits}
+use Rattle.ids.specs.Parts.{pair_fits}
 
-pub fits-is : (i : Item) → itemFits i ≡ true → Fits i
-unfolding itemFits
+pub fits-is : (i : Item) → item_fits i ≡ true → Fits i
+unfolding item_fits
 fits-is i e =
     let (a, c) = both (ltb i.first (2 ^ 32) && ltb i.last (2 ^ 32)) (leb i.first i.last) e in
     let (a, b) = both (ltb i.first (2 ^ 32)) (ltb i.last (2 ^ 32)) a in
     record { first = ltb-true _ _ a; last = ltb-true _ _ b; order = leb-true _ _ c }
 
-pub fits-yes : (i : Item) → Fits i → itemFits i ≡ true
-unfolding itemFits
-fits-yes i f = rw (lt-ltb i.first (2 ^ 32) f.first, lt-ltb i.last (2 ^ 32) f.last, le-leb i.first i.last f.order)
+pub fits_yes : (i : Item) → Fits i → item_fits i ≡ true
+unfolding item_fits
+fits_yes i f = rw (lt-ltb i.first (2 ^ 32) f.first, lt-ltb i.last (2 ^ 32) f.last, le-leb i.first i.last f.order)
 
-pub fits_not : (i : Item) → itemFits i ≡ false → Fits i → ⊥
-fits_not i e f = let z : true ≡ false = sym (fits-yes i f) ∙ e in let y : ◌≡◌ {A = ℕ} 0 1 = cc in omega arith
+pub fits_not : (i : Item) → item_fits i ≡ false → Fits i → ⊥
+fits_not i e f = let z : true ≡ false = sym (fits_yes i f) ∙ e in let y : ◌≡◌ {A = ℕ} 0 1 = cc in omega arith
 
 -- the tests, one by one
 module _ (a b : ℕ) where
-  pub first-large : 2 ^ 32 ≤ a → false ≡ pairFits a b
-  unfolding itemFits
+  pub first-large : 2 ^ 32 ≤ a → false ≡ pair_fits a b
+  unfolding item_fits
   first-large l = rw (le-ltb a (2 ^ 32) l)
 
   module _ (x : a < 2 ^ 32) where
-    pub last-large : 2 ^ 32 ≤ b → false ≡ pairFits a b
-    unfolding itemFits
+    pub last-large : 2 ^ 32 ≤ b → false ≡ pair_fits a b
+    unfolding item_fits
     last-large l = rw (lt-ltb a (2 ^ 32) x, le-ltb b (2 ^ 32) l)
 
-    pub in_order : b < 2 ^ 32 → leb a b ≡ pairFits a b
-    unfolding itemFits
+    pub in_order : b < 2 ^ 32 → leb a b ≡ pair_fits a b
+    unfolding item_fits
     in_order y = rw (lt-ltb a (2 ^ 32) x, lt-ltb b (2 ^ 32) y)
 
 -- the test of an item with n before it
-judged : (i : Item) (n : ℕ) → (not (itemFits i) || leb mostItems n) ≡ false → Fits i × (n < mostItems)
-judged i n e = go (itemFits i) refl (leb mostItems n) refl e
+judged : (i : Item) (n : ℕ) → (not (item_fits i) || leb most_items n) ≡ false → Fits i × (n < most_items)
+judged i n e = go (item_fits i) refl (leb most_items n) refl e
   where
-    go : (b : Bool) → itemFits i ≡ b → (c : Bool) → leb mostItems n ≡ c → (not b || c) ≡ false → Fits i × (n < mostItems)
+    go : (b : Bool) → item_fits i ≡ b → (c : Bool) → leb most_items n ≡ c → (not b || c) ≡ false → Fits i × (n < most_items)
     go true f false l e = (fits-is i f, leb-false _ _ l)
     go true f true l e = absurd (omega (arith, let y : ◌≡◌ {A = ℕ} 0 1 = cc in y))
     go false f c l e = absurd (omega (arith, let y : ◌≡◌ {A = ℕ} 0 1 = cc in y))
 
-faulted : (i : Item) (n : ℕ) → n ≤ mostItems → (not (itemFits i) || leb mostItems n) ≡ true → (Fits i → ⊥) ⊎ (n ≡ mostItems)
-faulted i n h e = go (itemFits i) refl (leb mostItems n) refl e
+faulted : (i : Item) (n : ℕ) → n ≤ most_items → (not (item_fits i) || leb most_items n) ≡ true → (Fits i → ⊥) ⊎ (n ≡ most_items)
+faulted i n h e = go (item_fits i) refl (leb most_items n) refl e
   where
-    go : (b : Bool) → itemFits i ≡ b → (c : Bool) → leb mostItems n ≡ c → (not b || c) ≡ true → (Fits i → ⊥) ⊎ (n ≡ mostItems)
+    go : (b : Bool) → item_fits i ≡ b → (c : Bool) → leb most_items n ≡ c → (not b || c) ≡ true → (Fits i → ⊥) ⊎ (n ≡ most_items)
     go false f c l e = inl (fits_not i f)
-    go true f true l e = inr (omega (arith, leb-true mostItems n l))
+    go true f true l e = inr (omega (arith, leb-true most_items n l))
     go true f false l e = absurd (omega (arith, let y : ◌≡◌ {A = ℕ} 0 1 = cc in y))
 
 pub record Kept (n : ℕ) (is : List Item) (rs : List Range) : Type 0 where
   pub fit : All Fits is
-  pub few : n + length is ≤ mostItems
+  pub few : n + length is ≤ most_items
   pub ranges : map range_of is ≡ rs
 
-pub ranges-good : (n : ℕ) (is : List Item) (rs : List Range) → n ≤ mostItems → rangesOf n is ≡ good rs → Kept n is rs
-unfolding rangesOf
-ranges-good n [] rs h e = record { fit = all_nil; few = omega arith; ranges = good-inj e }
+pub ranges-good : (n : ℕ) (is : List Item) (rs : List Range) → n ≤ most_items → ranges_of n is ≡ good rs → Kept n is rs
+unfolding ranges_of
+ranges-good n [] rs h e = record { fit = all_nil; few = omega arith; ranges = good_inj e }
 ranges-good n (i ∷ is) rs h e =
     let (t, e) = passed _ _ _ _ e in
     let (l, g, m) = fronted _ _ e in
     more i n is l rs (judged i n t) m (ranges-good (suc n) is l (omega (arith, (judged i n t).1)) g)
   where
-    more : (i : Item) (n : ℕ) (is : List Item) (l rs : List Range) → Fits i × (n < mostItems) → range_of i ∷ l ≡ rs → Kept (suc n) is l → Kept n (i ∷ is) rs
+    more : (i : Item) (n : ℕ) (is : List Item) (l rs : List Range) → Fits i × (n < most_items) → range_of i ∷ l ≡ rs → Kept (suc n) is l → Kept n (i ∷ is) rs
     more i n is l rs j m k = record { fit = all_cons j.0 k.fit; few = omega (arith, k.few); ranges = ap (λ (z : List Range). range_of i ∷ z) k.ranges ∙ m }
 
-pub ranges-complete : (n : ℕ) {is : List Item} → All Fits is → n + length is ≤ mostItems → rangesOf n is ≡ good (map range_of is)
-unfolding rangesOf
+pub ranges-complete : (n : ℕ) {is : List Item} → All Fits is → n + length is ≤ most_items → ranges_of n is ≡ good (map range_of is)
+unfolding ranges_of
 ranges-complete n all_nil h = refl
 ranges-complete n (all_cons {a = i} {l = is} f r) h =
-    let t : (not (itemFits i) || leb mostItems n) ≡ false = rw (fits-yes i f, lt-leb mostItems n (omega arith)) in
-    pass _ _ _ _ t (front_of _ _ (ranges-complete (suc n) r (omega arith)))
+    let t : (not (item_fits i) || leb most_items n) ≡ false = rw (fits_yes i f, lt-leb most_items n (omega arith)) in
+    pass _ _ _ _ t (front_of_lem _ _ (ranges-complete (suc n) r (omega arith)))
 
 -- the first item at fault, with n items before these
 pub record FaultyFrom (n : ℕ) (is : List Item) (p : ℕ) : Type 0 where
@@ -94,12 +94,12 @@ pub record FaultyFrom (n : ℕ) (is : List Item) (p : ℕ) : Type 0 where
   pub behind : List Item
   pub split : is ≡ before ++ item ∷ behind
   pub fit : All Fits before
-  pub few : n + length before ≤ mostItems
-  pub fault : (Fits item → ⊥) ⊎ (n + length before ≡ mostItems)
+  pub few : n + length before ≤ most_items
+  pub fault : (Fits item → ⊥) ⊎ (n + length before ≡ most_items)
   pub place : item.place ≡ p
 
 module _ (n : ℕ) (i : Item) (is : List Item) where
-  fault-here : n ≤ mostItems → (not (itemFits i) || leb mostItems n) ≡ true → FaultyFrom n (i ∷ is) i.place
+  fault-here : n ≤ most_items → (not (item_fits i) || leb most_items n) ≡ true → FaultyFrom n (i ∷ is) i.place
   fault-here h t = record { before = []; item = i; behind = is; split = refl; fit = all_nil; few = omega arith; fault = rw add-zero (faulted i n h t); place = refl }
 
   fault-behind : {p : ℕ} → Fits i → FaultyFrom (suc n) is p → FaultyFrom n (i ∷ is) p
@@ -114,8 +114,8 @@ module _ (n : ℕ) (i : Item) (is : List Item) where
     place = r.place;
   }
 
-pub ranges-bad : (n : ℕ) (is : List Item) {m p : ℕ} → n ≤ mostItems → rangesOf n is ≡ bad m p → (TEXT ≡ m) × FaultyFrom n is p
-unfolding rangesOf
+pub ranges-bad : (n : ℕ) (is : List Item) {m p : ℕ} → n ≤ most_items → ranges_of n is ≡ bad m p → (TEXT ≡ m) × FaultyFrom n is p
+unfolding ranges_of
 ranges-bad n [] h e = absurd (good≢bad (sym e))
 ranges-bad n (i ∷ is) {m} {p} h e = ⊎_elim
     (λ z. (z.1, subst (FaultyFrom n (i ∷ is)) z.2 (fault-here n i is h z.0)))
@@ -123,22 +123,22 @@ ranges-bad n (i ∷ is) {m} {p} h e = ⊎_elim
     (refused-at _ _ _ _ e)
 
 -- and the other way: an item at fault behind some that fit is where the ranges are refused
-refusing : (i : Item) (n : ℕ) → (Fits i → ⊥) ⊎ (n ≡ mostItems) → (not (itemFits i) || leb mostItems n) ≡ true
-refusing i n (inl f) = go (itemFits i) refl
+refusing : (i : Item) (n : ℕ) → (Fits i → ⊥) ⊎ (n ≡ most_items) → (not (item_fits i) || leb most_items n) ≡ true
+refusing i n (inl f) = go (item_fits i) refl
   where
-    go : (b : Bool) → itemFits i ≡ b → (not (itemFits i) || leb mostItems n) ≡ true
+    go : (b : Bool) → item_fits i ≡ b → (not (item_fits i) || leb most_items n) ≡ true
     go true e = absurd (f (fits-is i e))
     go false e = rw e
-refusing i n (inr e) = go (itemFits i)
+refusing i n (inr e) = go (item_fits i)
   where
-    go : (b : Bool) → (not b || leb mostItems n) ≡ true
-    go true = le-leb mostItems n (omega arith)
+    go : (b : Bool) → (not b || leb most_items n) ≡ true
+    go true = le-leb most_items n (omega arith)
     go false = refl
 
-pub ranges-faulty : (n : ℕ) {before : List Item} (i : Item) (behind : List Item) → All Fits before → n + length before ≤ mostItems → (Fits i → ⊥) ⊎ (n + length before ≡ mostItems)
-    → rangesOf n (before ++ i ∷ behind) ≡ bad TEXT i.place
-unfolding rangesOf
+pub ranges-faulty : (n : ℕ) {before : List Item} (i : Item) (behind : List Item) → All Fits before → n + length before ≤ most_items → (Fits i → ⊥) ⊎ (n + length before ≡ most_items)
+    → ranges_of n (before ++ i ∷ behind) ≡ bad TEXT i.place
+unfolding ranges_of
 ranges-faulty n i behind all_nil h f = halt _ _ _ _ (refusing i n (rw add-zero at f))
 ranges-faulty n i behind (all_cons {a = j} {l = before} g r) h f =
-    let t : (not (itemFits j) || leb mostItems n) ≡ false = rw (fits-yes j g, lt-leb mostItems n (omega arith)) in
-    pass _ _ _ _ t (stop-front _ _ (ranges-faulty (suc n) i behind r (omega arith) (⊎_elim (λ z. inl z) (λ z. inr (omega arith)) f)))
+    let t : (not (item_fits j) || leb most_items n) ≡ false = rw (fits_yes j g, lt-leb most_items n (omega arith)) in
+    pass _ _ _ _ t (stop_front _ _ (ranges-faulty (suc n) i behind r (omega arith) (⊎_elim (λ z. inl z) (λ z. inr (omega arith)) f)))

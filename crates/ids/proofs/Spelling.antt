@@ -13,10 +13,10 @@ use Rattle.rules.specs.Items.{All, all_nil, all_cons}
 use Rattle.ids.specs.Line.{Digit, decimal}
 use Rattle.ids.specs.Writer.{spelled}
 
-pub decimal-snoc : (m : ℕ) (a : List ℕ) (x : ℕ) → decimal m (a ++ (x ∷ [])) ≡ decimal m a * 10 + (x - 0x30)
+pub decimal_snoc : (m : ℕ) (a : List ℕ) (x : ℕ) → decimal m (a ++ (x ∷ [])) ≡ decimal m a * 10 + (x - 0x30)
 unfolding decimal
-decimal-snoc m [] x = refl
-decimal-snoc m (y ∷ a) x = decimal-snoc (m * 10 + (y - 0x30)) a x
+decimal_snoc m [] x = refl
+decimal_snoc m (y ∷ a) x = decimal_snoc (m * 10 + (y - 0x30)) a x
 
 -- the digits s of n, at most k
 pub record Spelt (k n : ℕ) (s : List ℕ) : Type 0 where
@@ -34,28 +34,28 @@ all_snoc x (all_cons e r) d = all_cons e (all_snoc x r d)
 digit : (x : ℕ) → x < 10 → Digit (0x30 + x)
 digit x h = record { least = omega arith; most = omega arith }
 
-spelt-one : (k n : ℕ) → n < 10 → Spelt (suc k) n ((0x30 + n) ∷ [])
+spelt_one : (k n : ℕ) → n < 10 → Spelt (suc k) n ((0x30 + n) ∷ [])
 unfolding decimal
-spelt-one k n h = record { all = all_cons (digit n h) all_nil; least = omega arith; most = omega arith; says = omega arith; zeroed = λ e. omega arith; one = λ e. refl }
+spelt_one k n h = record { all = all_cons (digit n h) all_nil; least = omega arith; most = omega arith; says = omega arith; zeroed = λ e. omega arith; one = λ e. refl }
 
-spelt-more : (k n : ℕ) (s : List ℕ) → 10 ≤ n → Spelt (suc k) (n / 10) s → Spelt (suc (suc k)) n (s ++ ((0x30 + n % 10) ∷ []))
-spelt-more k n s h r = record {
+spelt_more : (k n : ℕ) (s : List ℕ) → 10 ≤ n → Spelt (suc k) (n / 10) s → Spelt (suc (suc k)) n (s ++ ((0x30 + n % 10) ∷ []))
+spelt_more k n s h r = record {
   all = all_snoc _ r.all (digit (n % 10) (omega arith));
   least = rw length-append (omega arith);
   most = rw length-append (omega (arith, r.most));
-  says = decimal-snoc 0 s (0x30 + n % 10) ∙ rw r.says (omega arith);
+  says = decimal_snoc 0 s (0x30 + n % 10) ∙ rw r.says (omega arith);
   zeroed = λ e. absurd (omega (arith, r.zeroed (sym (get_or-append s ((0x30 + n % 10) ∷ []) 0 0 r.least) ∙ e)));
   one = λ e. absurd (omega arith);
 }
 
 pub spelt : (k n : ℕ) → n < 10 ^ suc k → Spelt (suc k) n (spelled (suc k) n)
 unfolding spelled
-spelt zero n h = rw (lt-ltb n 10 (omega arith), spelled) (spelt-one 0 n (omega arith))
+spelt zero n h = rw (lt-ltb n 10 (omega arith), spelled) (spelt_one 0 n (omega arith))
 spelt (suc k) n h = go (ltb n 10) refl (λ l. spelt k (n / 10) l)
   where
     go : (b : Bool) → ltb n 10 ≡ b → (n / 10 < 10 ^ suc k → Spelt (suc k) (n / 10) (spelled (suc k) (n / 10))) → Spelt (suc (suc k)) n (spelled (suc (suc k)) n)
-    go true e r = rw (e, spelled) (spelt-one (suc k) n (ltb-true _ _ e))
-    go false e r = rw (e, spelled) (spelt-more k n (spelled (suc k) (n / 10)) (ltb-false _ _ e) (r ((div-lt_iff_lt-mul (omega arith)).1 (rw (pow-suc 10 (suc k)) at h))))
+    go true e r = rw (e, spelled) (spelt_one (suc k) n (ltb-true _ _ e))
+    go false e r = rw (e, spelled) (spelt_more k n (spelled (suc k) (n / 10)) (ltb-false _ _ e) (r ((div-lt_iff_lt-mul (omega arith)).1 (rw (pow-suc 10 (suc k)) at h))))
 
 -- one digit more may be asked for
 pub spelled-more : (k n : ℕ) → n < 10 ^ suc k → spelled (suc (suc k)) n ≡ spelled (suc k) n

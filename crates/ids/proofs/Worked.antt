@@ -10,17 +10,17 @@ use Rattle.rules.specs.Buffer.{fitted, stored}
 use Rattle.rules.specs.Edges.{told}
 use Rattle.rules.proofs.Outcomes.{halt}
 use Rattle.ids.specs.Line.{decimal}
-use Rattle.ids.specs.Reader.{digits, id_at, itemBehind, item_at, listAt, itemFits, rangesOf, idRanges, readIds, shownRanges}
-use Rattle.ids.specs.Writer.{spelled, itemText, lineText, rangesKept, line_of, writeIds}
+use Rattle.ids.specs.Reader.{digits, id_at, item_behind, item_at, list_at, item_fits, ranges_of, id_ranges, read_ids, shown_ranges}
+use Rattle.ids.specs.Writer.{spelled, item_text, line_text, ranges_kept, line_of, write_ids}
 use Rattle.ids.specs.Worked.{Worked}
 
-too_large : (s : List ℕ) → length s ≡ 65537 → idRanges s ≡ bad LARGE 65536
-unfolding idRanges
+too_large : (s : List ℕ) → length s ≡ 65537 → id_ranges s ≡ bad LARGE 65536
+unfolding id_ranges
 too_large s e = halt _ _ _ _ (lt-ltb 65536 (length s) (omega arith))
 
-pub worked-out : Worked
-unfolding refuse ◌>>◌ ◌>>=◌ ◌∷>◌ fitted stored decimal digits id_at itemBehind item_at listAt itemFits rangesOf idRanges readIds shownRanges spelled itemText lineText rangesKept line_of writeIds
-worked-out = record {
+pub worked_out : Worked
+unfolding refuse ◌>>◌ ◌>>=◌ ◌∷>◌ fitted stored decimal digits id_at item_behind item_at list_at item_fits ranges_of id_ranges read_ids shown_ranges spelled item_text line_text ranges_kept line_of write_ids
+worked_out = record {
   number = refl;
   read = refl;
   broken = refl;

@@ -3,12 +3,12 @@ use Rattle.std.specs.Prelude.{ℕ, ◌+◌, ◌≤◌, ◌<◌, ◌^◌, ◌≡�
 use Rattle.rules.specs.Outcome.{good, bad, LARGE}
 use Rattle.rules.specs.Bytes.{at}
 use Rattle.rules.specs.Items.{All}
-use Rattle.rules.specs.Message.{mostBytes}
+use Rattle.rules.specs.Message.{most_bytes}
 use Rattle.rules.specs.Claims.{Careful, Writes}
 use Rattle.refusal.specs.Numbers.{TEXT}
 use Rattle.ids.specs.Line.{hyphen, decimal, IsId, Item, Reads}
-use Rattle.ids.specs.Reader.{Range, mostItems, idRanges}
-use Rattle.ids.specs.Writer.{idText, itemText, lineText, line_of, writeIds}
+use Rattle.ids.specs.Reader.{Range, most_items, id_ranges}
+use Rattle.ids.specs.Writer.{id_text, item_text, line_text, line_of, write_ids}
 
 -- ---- Reading
 
@@ -27,16 +27,16 @@ range_of i = record { first = i.first; last = i.last }
 
 -- the lines that are read, and into which ranges
 pub record Accepted (s : List ℕ) (rs : List Range) : Type 0 where
-  pub small : length s ≤ mostBytes
+  pub small : length s ≤ most_bytes
   pub items : List Item
   pub reads : Reads s items
   pub fit : All Fits items
-  pub few : length items ≤ mostItems
+  pub few : length items ≤ most_items
   pub ranges : map range_of items ≡ rs
 
 -- Exactly these lines are read, and exactly into these ranges.
 abbrev pub ReadExactly : Type 0
-ReadExactly = (s : List ℕ) (rs : List Range) → (idRanges s ≡ good rs) ↔ Accepted s rs
+ReadExactly = (s : List ℕ) (rs : List Range) → (id_ranges s ≡ good rs) ↔ Accepted s rs
 
 -- some line of good form begins with s
 abbrev pub Begins : List ℕ → Type 0
@@ -57,19 +57,19 @@ pub record Faulty (is : List Item) (p : ℕ) : Type 0 where
   pub behind : List Item
   pub split : is ≡ before ++ item ∷ behind
   pub fit : All Fits before
-  pub few : length before ≤ mostItems
-  pub fault : (Fits item → ⊥) ⊎ (length before ≡ mostItems)
+  pub few : length before ≤ most_items
+  pub fault : (Fits item → ⊥) ⊎ (length before ≡ most_items)
   pub place : item.place ≡ p
 
 -- why and where a line is refused
 pub data Refused (s : List ℕ) : ℕ → ℕ → Type 0 where
-  large : mostBytes < length s → Refused s LARGE mostBytes
-  form : {p : ℕ} → length s ≤ mostBytes → Breaks s p → Refused s TEXT p
-  fault : {p : ℕ} {is : List Item} → length s ≤ mostBytes → Reads s is → Faulty is p → Refused s TEXT p
+  large : most_bytes < length s → Refused s LARGE most_bytes
+  form : {p : ℕ} → length s ≤ most_bytes → Breaks s p → Refused s TEXT p
+  fault : {p : ℕ} {is : List Item} → length s ≤ most_bytes → Reads s is → Faulty is p → Refused s TEXT p
 
 -- Each refusal is given exactly if its reason holds, at its place.
 abbrev pub RefusedExactly : Type 0
-RefusedExactly = (s : List ℕ) (n p : ℕ) → (idRanges s ≡ bad n p) ↔ Refused s n p
+RefusedExactly = (s : List ℕ) (n p : ℕ) → (id_ranges s ≡ bad n p) ↔ Refused s n p
 
 -- ---- Writing
 
@@ -81,12 +81,12 @@ pub record Plain (n : ℕ) (s : List ℕ) : Type 0 where
 
 -- No leading zeros.
 abbrev pub NoLeadingZeros : Type 0
-NoLeadingZeros = (n : ℕ) → n < 2 ^ 32 → Plain n (idText n)
+NoLeadingZeros = (n : ℕ) → n < 2 ^ 32 → Plain n (id_text n)
 
 -- A range whose ends agree is a single id, any other two with "-" between.
 pub record SingleWhereEqual : Type 0 where
-  pub single : (r : Range) → r.first ≡ r.last → itemText r ≡ idText r.first
-  pub range : (r : Range) → (r.first ≡ r.last → ⊥) → itemText r ≡ idText r.first ++ hyphen ∷ idText r.last
+  pub single : (r : Range) → r.first ≡ r.last → item_text r ≡ id_text r.first
+  pub range : (r : Range) → (r.first ≡ r.last → ⊥) → item_text r ≡ id_text r.first ++ hyphen ∷ id_text r.last
 
 abbrev pub Ordered : Range → Type 0
 Ordered r = r.first ≤ r.last
@@ -94,12 +94,12 @@ Ordered r = r.first ≤ r.last
 -- the ranges that may be written: 1 to 32, and none inverted
 pub record Writable (rs : List Range) : Type 0 where
   pub some : 1 ≤ length rs
-  pub few : length rs ≤ mostItems
+  pub few : length rs ≤ most_items
   pub ordered : All Ordered rs
 
 -- Exactly these ranges are written.
 abbrev pub WrittenExactly : Type 0
-WrittenExactly = (rs : List Range) (s : List ℕ) → (line_of rs ≡ good s) ↔ (Writable rs × (lineText rs ≡ s))
+WrittenExactly = (rs : List Range) (s : List ℕ) → (line_of rs ≡ good s) ↔ (Writable rs × (line_text rs ≡ s))
 
 -- p is the index of the first range that is inverted or the 33rd
 pub record FirstBad (rs : List Range) (p : ℕ) : Type 0 where
@@ -108,8 +108,8 @@ pub record FirstBad (rs : List Range) (p : ℕ) : Type 0 where
   pub behind : List Range
   pub split : rs ≡ before ++ range ∷ behind
   pub ordered : All Ordered before
-  pub few : length before ≤ mostItems
-  pub fault : (Ordered range → ⊥) ⊎ (length before ≡ mostItems)
+  pub few : length before ≤ most_items
+  pub fault : (Ordered range → ⊥) ⊎ (length before ≡ most_items)
   pub index : length before ≡ p
 
 -- why ranges are not written, and at which index
@@ -122,11 +122,11 @@ UnwrittenExactly = (rs : List Range) (n p : ℕ) → (line_of rs ≡ bad n p) �
 
 -- With room the line is written; without it the answer is ROOM, with the bytes needed.
 abbrev pub WriterWrites : Type 0
-WriterWrites = (rs : List Range) (s : List ℕ) → line_of rs ≡ good s → Writes s (writeIds rs)
+WriterWrites = (rs : List Range) (s : List ℕ) → line_of rs ≡ good s → Writes s (write_ids rs)
 
 -- A refusal leaves the buffer, and bytes behind the line stay.
 abbrev pub BufferKept : Type 0
-BufferKept = (rs : List Range) (buffer : List ℕ) → Careful (writeIds rs buffer).0.number (writeIds rs buffer).0.bytes buffer (writeIds rs buffer).1
+BufferKept = (rs : List Range) (buffer : List ℕ) → Careful (write_ids rs buffer).0.number (write_ids rs buffer).0.bytes buffer (write_ids rs buffer).1
 
 -- ---- Reading and writing
 
@@ -137,15 +137,15 @@ pub record RangeFits (r : Range) : Type 0 where
 
 -- Reading what was written gives the same ranges.
 abbrev pub WrittenRead : Type 0
-WrittenRead = (rs : List Range) (s : List ℕ) → All RangeFits rs → line_of rs ≡ good s → idRanges s ≡ good rs
+WrittenRead = (rs : List Range) (s : List ℕ) → All RangeFits rs → line_of rs ≡ good s → id_ranges s ≡ good rs
 
 -- What was read can be written, which gives the line's plain form; reading that gives the same ranges again.
 abbrev pub ReadWritten : Type 0
-ReadWritten = (s : List ℕ) (rs : List Range) → idRanges s ≡ good rs → (line_of rs ≡ good (lineText rs)) × (idRanges (lineText rs) ≡ good rs)
+ReadWritten = (s : List ℕ) (rs : List Range) → id_ranges s ≡ good rs → (line_of rs ≡ good (line_text rs)) × (id_ranges (line_text rs) ≡ good rs)
 
 -- The plain form is the shortest: no line that is read into these ranges has fewer bytes.
 abbrev pub PlainShortest : Type 0
-PlainShortest = (s : List ℕ) (rs : List Range) → idRanges s ≡ good rs → length (lineText rs) ≤ length s
+PlainShortest = (s : List ℕ) (rs : List Range) → id_ranges s ≡ good rs → length (line_text rs) ≤ length s
 
 -- What is written has at most 703 bytes, so that it is never LARGE.
 abbrev pub LineShort : Type 0

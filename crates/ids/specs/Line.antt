@@ -9,8 +9,8 @@ comma = 0x2C
 abbrev pub hyphen : ℕ
 hyphen = 0x2D
 
-abbrev pub mostDigits : ℕ
-mostDigits = 10
+abbrev pub most_digits : ℕ
+most_digits = 10
 
 -- one of the bytes "0" to "9"
 pub record Digit (x : ℕ) : Type 0 where
@@ -26,7 +26,7 @@ decimal n (x ∷ s) = decimal (n * 10 + (x - 0x30)) s
 pub record IsId (s : List ℕ) : Type 0 where
   pub digits : All Digit s
   pub least : 1 ≤ length s
-  pub most : length s ≤ mostDigits
+  pub most : length s ≤ most_digits
 
 -- what an item says: where its first digit stands, and the ends of its range
 pub record Item : Type 0 where

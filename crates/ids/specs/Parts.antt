@@ -3,8 +3,8 @@ use Rattle.std.specs.Prelude.{ℕ, zero, suc, ◌+◌, ◌-◌, ◌*◌, ◌≤�
 use Rattle.rules.specs.Outcome.{Outcome, good, bad, refuse, ◌>>◌, ◌>>=◌}
 use Rattle.refusal.specs.Numbers.{TEXT, refused}
 use Rattle.ids.specs.Line.{comma, Item}
-use Rattle.ids.specs.Reader.{Range, mostItems, itemFits, listAt, rangesOf, handedOut}
-use Rattle.ids.specs.Told.{rangeIn, rangesIn}
+use Rattle.ids.specs.Reader.{Range, most_items, item_fits, list_at, ranges_of, handed_out}
+use Rattle.ids.specs.Told.{range_in, ranges_in}
 use Rattle.ids.specs.declared.IdRange.{IdRange}
 use Rattle.ids.specs.declared.ItemRead.{ItemRead}
 use Rattle.ids.specs.declared.ItemRead.TheVariants as Read
@@ -16,21 +16,21 @@ use Rattle.ids.specs.declared.Order.{Order}
 use Rattle.ids.specs.declared.Order.TheVariants as Ordered
 
 -- an item read at place p
-abbrev pub toldItem : ℕ → ItemRead → Outcome (Item × ℕ)
-toldItem p (Read.Item a b n) = good (record { place = p; first = a; last = b }, n)
-toldItem p (Read.Broken q) = bad TEXT q
+abbrev pub told_item : ℕ → ItemRead → Outcome (Item × ℕ)
+told_item p (Read.Item a b n) = good (record { place = p; first = a; last = b }, n)
+told_item p (Read.Broken q) = bad TEXT q
 
 -- what follows an item, u at place p: nothing, or a comma and a list
 unfoldable pub rest_at : ℕ → List ℕ → Outcome (List Item)
 rest_at p [] = good []
 rest_at p (x ∷ u) = do
   refuse (not (eqb x comma)) TEXT p
-  listAt zero (suc p) u
+  list_at zero (suc p) u
 
 -- the form of what follows an item
-abbrev pub toldForm : Form → Outcome (Unit {0})
-toldForm Formed.Good = good tt
-toldForm (Formed.Broken q) = bad TEXT q
+abbrev pub told_form : Form → Outcome (Unit {0})
+told_form Formed.Good = good tt
+told_form (Formed.Broken q) = bad TEXT q
 
 unfoldable pub form_of : Outcome (List Item) → Outcome (Unit {0})
 form_of (good is) = good tt
@@ -40,42 +40,42 @@ form_of (bad n p) = bad n p
 unfoldable pub read_on : List Range → Outcome (List Item) → Outcome (List Range × ℕ)
 read_on done o = do
   is ← o
-  rs ← rangesOf (length done) is
-  good (handedOut (done ++ rs))
+  rs ← ranges_of (length done) is
+  good (handed_out (done ++ rs))
 
 -- an item at place p is at fault: what follows it can only break the form
-unfoldable pub faultAt : ℕ → Outcome (List Item) → Outcome (List Range × ℕ)
-faultAt p o = do
+unfoldable pub fault_at : ℕ → Outcome (List Item) → Outcome (List Range × ℕ)
+fault_at p o = do
   is ← o
   bad TEXT p
 
 -- whether an item with these ids fits
-abbrev pub pairFits : ℕ → ℕ → Bool
-pairFits a b = itemFits (record { place = 0; first = a; last = b })
+abbrev pub pair_fits : ℕ → ℕ → Bool
+pair_fits a b = item_fits (record { place = 0; first = a; last = b })
 
 -- the 32 ranges that numbers stand for, first and last of each in turn; and such numbers with a range at index n
-abbrev pub heldRanges : List ℕ → List Range
-heldRanges numbers = map rangeIn (rangesIn mostItems numbers)
+abbrev pub held_ranges : List ℕ → List Range
+held_ranges numbers = map range_in (ranges_in most_items numbers)
 
-abbrev pub withRange : List ℕ → ℕ → ℕ → ℕ → List ℕ
-withRange l n a b = set (set l (2 * n) a) (2 * n + 1) b
+abbrev pub with_range : List ℕ → ℕ → ℕ → ℕ → List ℕ
+with_range l n a b = set (set l (2 * n) a) (2 * n + 1) b
 
 -- the numbers of 32 ranges, of which n are read; the others are zero
 pub record Held (numbers : List ℕ) (n : ℕ) : Type 0 where
-  pub few : n ≤ mostItems
-  pub long : length numbers ≡ 2 * mostItems
-  pub behind : drop (2 * n) numbers ≡ replicate (2 * (mostItems - n)) 0
+  pub few : n ≤ most_items
+  pub long : length numbers ≡ 2 * most_items
+  pub behind : drop (2 * n) numbers ≡ replicate (2 * (most_items - n)) 0
 
 -- what the readers come to, with the numbers after it
-abbrev pub lineTold : LineRead → List ℕ → Outcome (List Range × ℕ)
-lineTold (Line.Ranges n) numbers = good (heldRanges numbers, n)
-lineTold (Line.Refused f) numbers = refused f
+abbrev pub line_told : LineRead → List ℕ → Outcome (List Range × ℕ)
+line_told (Line.Ranges n) numbers = good (held_ranges numbers, n)
+line_told (Line.Refused f) numbers = refused f
 
 -- a range of the code that is all zero
-abbrev pub noIds : IdRange
-noIds = record { first = 0; last = 0 }
+abbrev pub no_ids : IdRange
+no_ids = record { first = 0; last = 0 }
 
 -- whether ranges may be written
-abbrev pub toldOrder : Order → Outcome (Unit {0})
-toldOrder Ordered.Kept = good tt
-toldOrder (Ordered.Bad i) = bad TEXT i
+abbrev pub told_order : Order → Outcome (Unit {0})
+told_order Ordered.Kept = good tt
+told_order (Ordered.Bad i) = bad TEXT i

@@ -3,8 +3,8 @@ use Rattle.std.specs.Prelude.{ℕ, zero, suc, ◌+◌, ◌/◌, ◌%◌, true, f
 use Rattle.rules.specs.Outcome.{Outcome, good, bad, refuse, ◌>>◌, ◌>>=◌}
 use Rattle.rules.specs.Buffer.{Written, stored, fitted}
 use Rattle.refusal.specs.Numbers.{TEXT}
-use Rattle.ids.specs.Line.{comma, hyphen, mostDigits}
-use Rattle.ids.specs.Reader.{Range, mostItems}
+use Rattle.ids.specs.Line.{comma, hyphen, most_digits}
+use Rattle.ids.specs.Reader.{Range, most_items}
 
 -- n in decimal, at most k digits of it, with no leading zeros
 unfoldable pub spelled : ℕ → ℕ → List ℕ
@@ -12,32 +12,32 @@ spelled zero n = []
 spelled (suc k) n = elim (ltb n 10) [ true ↦ (0x30 + n) ∷ [] | false ↦ spelled k (n / 10) ++ ((0x30 + n % 10) ∷ []) ]
 
 -- an id has 10 digits at most
-abbrev pub idText : ℕ → List ℕ
-idText n = spelled mostDigits n
+abbrev pub id_text : ℕ → List ℕ
+id_text n = spelled most_digits n
 
-unfoldable pub itemText : Range → List ℕ
-itemText r = elim (eqb r.first r.last) [ true ↦ idText r.first | false ↦ idText r.first ++ hyphen ∷ idText r.last ]
+unfoldable pub item_text : Range → List ℕ
+item_text r = elim (eqb r.first r.last) [ true ↦ id_text r.first | false ↦ id_text r.first ++ hyphen ∷ id_text r.last ]
 
 -- the items of a list with commas between
-unfoldable pub lineText : List Range → List ℕ
-lineText [] = []
-lineText (r ∷ []) = itemText r
-lineText (r ∷ q ∷ rs) = itemText r ++ comma ∷ lineText (q ∷ rs)
+unfoldable pub line_text : List Range → List ℕ
+line_text [] = []
+line_text (r ∷ []) = item_text r
+line_text (r ∷ q ∷ rs) = item_text r ++ comma ∷ line_text (q ∷ rs)
 
 -- no range is inverted, and none is the 33rd; n ranges are before these
-unfoldable pub rangesKept : ℕ → List Range → Outcome (Unit {0})
-rangesKept n [] = good tt
-rangesKept n (r ∷ rs) = do
-  refuse (ltb r.last r.first || leb mostItems n) TEXT n
-  rangesKept (suc n) rs
+unfoldable pub ranges_kept : ℕ → List Range → Outcome (Unit {0})
+ranges_kept n [] = good tt
+ranges_kept n (r ∷ rs) = do
+  refuse (ltb r.last r.first || leb most_items n) TEXT n
+  ranges_kept (suc n) rs
 
 -- the line of some ranges
 unfoldable pub line_of : List Range → Outcome (List ℕ)
 line_of [] = bad TEXT 0
 line_of (r ∷ rs) = do
-  rangesKept zero (r ∷ rs)
-  good (lineText (r ∷ rs))
+  ranges_kept zero (r ∷ rs)
+  good (line_text (r ∷ rs))
 
 -- the answer, and the buffer after it
-unfoldable pub writeIds : List Range → List ℕ → Written × List ℕ
-writeIds rs buffer = stored buffer (line_of rs >>= fitted buffer)
+unfoldable pub write_ids : List Range → List ℕ → Written × List ℕ
+write_ids rs buffer = stored buffer (line_of rs >>= fitted buffer)

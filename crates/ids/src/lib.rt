@@ -5,11 +5,11 @@ ghost use Rattle.std.specs.Prelude.{◌≡◌, List, map, ℕ, ◌+◌, ◌%◌,
 ghost use Rattle.std.proofs.lemmas.List.Edits.{sets};
 ghost use Rattle.refusal.specs.Numbers.{refused};
 ghost use Rattle.ids.specs.Line.{decimal};
-ghost use Rattle.ids.specs.Reader.{isDigit, digits, item_at, listAt, readIds};
-ghost use Rattle.ids.specs.Writer.{idText, itemText, lineText, rangesKept, writeIds};
+ghost use Rattle.ids.specs.Reader.{is_digit, digits, item_at, list_at, read_ids};
+ghost use Rattle.ids.specs.Writer.{id_text, item_text, line_text, ranges_kept, write_ids};
 ghost use Rattle.compose.specs.Told as compose;
-ghost use Rattle.ids.specs.Told.{rangeIn, answer, told, handedOver, rangesIn};
-ghost use Rattle.ids.specs.Parts.{toldItem, rest_at, toldForm, form_of, pairFits, heldRanges, withRange, Held, lineTold, read_on, faultAt, noIds, toldOrder};
+ghost use Rattle.ids.specs.Told.{range_in, answer, told, handed_over, ranges_in};
+ghost use Rattle.ids.specs.Parts.{told_item, rest_at, told_form, form_of, pair_fits, held_ranges, with_range, Held, line_told, read_on, fault_at, no_ids, told_order};
 
 use compose::Written;
 use refusal::{Refusal, Why};
@@ -43,7 +43,7 @@ fn wide(x: u8) -> u64
 }
 
 fn is_digit(x: u8) -> bool
-    ensures { result ≡ isDigit x }
+    ensures { result ≡ is_digit x }
 {
     if x < 48 {
         return false;
@@ -84,7 +84,7 @@ enum ItemRead {
 
 fn item_at(s: &[u8], at: usize) -> ItemRead
     requires { at ≤ length s.now }
-    ensures { toldItem at result ≡ item_at at (drop at s.now) }
+    ensures { told_item at result ≡ item_at at (drop at s.now) }
 {
     let a = digits_at(s, at);
     if a.count == 0 {
@@ -119,7 +119,7 @@ enum Form {
 // The form of what follows an item: nothing, or a comma and a list.
 fn form_at(s: &[u8], from: usize) -> Form
     requires { from ≤ length s.now }
-    ensures { toldForm result ≡ form_of (rest_at from (drop from s.now)) }
+    ensures { told_form result ≡ form_of (rest_at from (drop from s.now)) }
 {
     let mut at = from;
     while at < s.len() {
@@ -161,7 +161,7 @@ fn refuse(place: usize) -> LineRead
 // The item at place `at` is at fault. What follows it is looked at for its form alone, in a loop, since it may be long.
 fn fault(s: &[u8], at: usize, next: usize) -> LineRead
     requires { next ≤ length s.now }
-    ensures { (numbers : List ℕ) → lineTold result numbers ≡ faultAt at (rest_at next (drop next s.now)) }
+    ensures { (numbers : List ℕ) → line_told result numbers ≡ fault_at at (rest_at next (drop next s.now)) }
 {
     match form_at(s, next) {
         Form::Good => refuse(at),
@@ -171,7 +171,7 @@ fn fault(s: &[u8], at: usize, next: usize) -> LineRead
 
 // Whether both ids are below 2^32, the first not above the last.
 fn fits(first: u64, last: u64) -> bool
-    ensures { result ≡ pairFits first last }
+    ensures { result ≡ pair_fits first last }
 {
     if 4294967296 <= first {
         return false;
@@ -185,7 +185,7 @@ fn fits(first: u64, last: u64) -> bool
 // Stores first and last of the range with index n.
 fn put_range(numbers: &mut [u32], n: usize, first: u32, last: u32)
     requires { (n < 32) × (length numbers.old ≡ 64) }
-    ensures { numbers.new ≡ withRange numbers.old n first last }
+    ensures { numbers.new ≡ with_range numbers.old n first last }
 {
     let at = 2 * n;
     numbers[at] = first;
@@ -196,7 +196,7 @@ fn put_range(numbers: &mut [u32], n: usize, first: u32, last: u32)
 #[cycle(read_item_read_list)]
 fn read_item(s: &[u8], at: usize, numbers: &mut [u32], n: usize) -> LineRead
     requires { (at ≤ length s.now) × Held numbers.old n }
-    ensures { lineTold result numbers.new ≡ read_on (take n (heldRanges numbers.old)) (listAt 0 at (drop at s.now)) }
+    ensures { line_told result numbers.new ≡ read_on (take n (held_ranges numbers.old)) (list_at 0 at (drop at s.now)) }
 {
     match item_at(s, at) {
         ItemRead::Broken(q) => refuse(q),
@@ -218,7 +218,7 @@ fn read_item(s: &[u8], at: usize, numbers: &mut [u32], n: usize) -> LineRead
 #[cycle(read_item_read_list)]
 fn read_list(s: &[u8], at: usize, numbers: &mut [u32], n: usize) -> LineRead
     requires { (at ≤ length s.now) × Held numbers.old n }
-    ensures { lineTold result numbers.new ≡ read_on (take n (heldRanges numbers.old)) (rest_at at (drop at s.now)) }
+    ensures { line_told result numbers.new ≡ read_on (take n (held_ranges numbers.old)) (rest_at at (drop at s.now)) }
 {
     if at == s.len() {
         return LineRead::Ranges(n);
@@ -235,7 +235,7 @@ fn read_list(s: &[u8], at: usize, numbers: &mut [u32], n: usize) -> LineRead
 
 // A range that is all zero.
 fn no_ids() -> IdRange
-    ensures { result ≡ noIds }
+    ensures { result ≡ no_ids }
 {
     IdRange { first: 0, last: 0 }
 }
@@ -243,7 +243,7 @@ fn no_ids() -> IdRange
 // The range with index i, of ranges of which first and last are lent.
 fn range_at(ends: &[u32], i: usize) -> IdRange
     requires { (i < 32) × (length ends.now ≡ 64) }
-    ensures { result ≡ get_or (rangesIn 32 ends.now) i noIds }
+    ensures { result ≡ get_or (ranges_in 32 ends.now) i no_ids }
 {
     let at = 2 * i;
     IdRange {
@@ -255,7 +255,7 @@ fn range_at(ends: &[u32], i: usize) -> IdRange
 // All 32 of them.
 fn ranges_of(ends: &[u32]) -> [IdRange; 32]
     requires { length ends.now ≡ 64 }
-    ensures { result ≡ rangesIn 32 ends.now }
+    ensures { result ≡ ranges_in 32 ends.now }
 {
     let mut ranges = [no_ids(); 32];
     let mut i: usize = 0;
@@ -279,7 +279,7 @@ fn refused_line(f: Refusal) -> IdsRead
 
 // The ranges of a line of ids.
 pub fn read_ids(line: &[u8]) -> IdsRead
-    ensures { told result ≡ answer (readIds line.now) }
+    ensures { told result ≡ answer (read_ids line.now) }
 {
     if 65536 < line.len() {
         return refused_line(Refusal {
@@ -300,7 +300,7 @@ pub fn read_ids(line: &[u8]) -> IdsRead
 
 // How many digits n has in decimal.
 fn digits_of(n: u32) -> usize
-    ensures { (result ≡ length (idText n)) × (result ≤ 10) }
+    ensures { (result ≡ length (id_text n)) × (result ≤ 10) }
 {
     if n < 10 { 1 } else { digits_of(n / 10) + 1 }
 }
@@ -314,7 +314,7 @@ fn low_digit(n: u32) -> u8
 // Stores n in decimal from place `at` on, and says where it ends.
 fn put_id(out: &mut [u8], at: usize, n: u32) -> usize
     requires { at < 4294967296 }
-    ensures { (out.new ≡ sets out.old at (idText n)) × (result ≡ at + length (idText n)) × (result ≤ at + 10) }
+    ensures { (out.new ≡ sets out.old at (id_text n)) × (result ≡ at + length (id_text n)) × (result ≤ at + 10) }
 {
     if n < 10 {
         put_byte(out, at, low_digit(n));
@@ -327,7 +327,7 @@ fn put_id(out: &mut [u8], at: usize, n: u32) -> usize
 
 // How many bytes the item of a range has.
 fn item_len(r: IdRange) -> usize
-    ensures { (result ≡ length (itemText (rangeIn r))) × (result ≤ 21) }
+    ensures { (result ≡ length (item_text (range_in r))) × (result ≤ 21) }
 {
     if r.first == r.last {
         return digits_of(r.first);
@@ -338,7 +338,7 @@ fn item_len(r: IdRange) -> usize
 // Stores the item of a range from place `at` on, and says where it ends.
 fn put_item(out: &mut [u8], at: usize, r: IdRange) -> usize
     requires { at < 65536 }
-    ensures { (out.new ≡ sets out.old at (itemText (rangeIn r))) × (result ≡ at + length (itemText (rangeIn r))) × (result ≤ at + 21) }
+    ensures { (out.new ≡ sets out.old at (item_text (range_in r))) × (result ≡ at + length (item_text (range_in r))) × (result ≤ at + 21) }
 {
     let end = put_id(out, at, r.first);
     if r.first == r.last {
@@ -358,7 +358,7 @@ enum Order {
 // No range is inverted, and none is the 33rd.
 fn order_of(ends: &[u32], n: usize) -> Order
     requires { length ends.now ≡ 64 }
-    ensures { toldOrder result ≡ rangesKept 0 (handedOver n (rangesIn 32 ends.now)) }
+    ensures { told_order result ≡ ranges_kept 0 (handed_over n (ranges_in 32 ends.now)) }
 {
     let mut i: usize = 0;
     while i < n {
@@ -377,7 +377,7 @@ fn order_of(ends: &[u32], n: usize) -> Order
 // How many bytes the line of the first n ranges has.
 fn line_len(ends: &[u32], n: usize) -> usize
     requires { (1 ≤ n) × (n ≤ 32) × (length ends.now ≡ 64) }
-    ensures { result ≡ length (lineText (map rangeIn (take n (rangesIn 32 ends.now)))) }
+    ensures { result ≡ length (line_text (map range_in (take n (ranges_in 32 ends.now)))) }
 {
     let mut len = item_len(range_at(ends, 0));
     let mut i: usize = 1;
@@ -391,7 +391,7 @@ fn line_len(ends: &[u32], n: usize) -> usize
 // Stores the line of the first n ranges.
 fn put_line(out: &mut [u8], ends: &[u32], n: usize)
     requires { (1 ≤ n) × (n ≤ 32) × (length ends.now ≡ 64) }
-    ensures { out.new ≡ sets out.old 0 (lineText (map rangeIn (take n (rangesIn 32 ends.now)))) }
+    ensures { out.new ≡ sets out.old 0 (line_text (map range_in (take n (ranges_in 32 ends.now)))) }
 {
     let mut at = put_item(out, 0, range_at(ends, 0));
     let mut i: usize = 1;
@@ -404,7 +404,7 @@ fn put_line(out: &mut [u8], ends: &[u32], n: usize)
 
 // Writes ranges as a line, the first `count` of those of which first and last are lent. A 33rd is refused, whatever it would be.
 pub fn write_ends(ends: &[u32; 64], count: usize, out: &mut [u8]) -> Written
-    ensures { compose.told result out.new ≡ writeIds (handedOver count (rangesIn 32 ends.now)) out.old }
+    ensures { compose.told result out.new ≡ write_ids (handed_over count (ranges_in 32 ends.now)) out.old }
 {
     if count == 0 {
         return Written::Refused(Refusal {
@@ -433,7 +433,7 @@ pub fn write_ends(ends: &[u32; 64], count: usize, out: &mut [u8]) -> Written
 
 // First and last of 32 ranges, in turn.
 fn ends_of(ranges: [IdRange; 32]) -> [u32; 64]
-    ensures { rangesIn 32 result ≡ ranges }
+    ensures { ranges_in 32 result ≡ ranges }
 {
     let mut ends = [0u32; 64];
     let mut i: usize = 0;
@@ -447,7 +447,7 @@ fn ends_of(ranges: [IdRange; 32]) -> [u32; 64]
 
 // Writes ranges as a line, the first `count` of the array.
 pub fn write_ids(ranges: [IdRange; 32], count: usize, out: &mut [u8]) -> Written
-    ensures { compose.told result out.new ≡ writeIds (handedOver count ranges) out.old }
+    ensures { compose.told result out.new ≡ write_ids (handed_over count ranges) out.old }
 {
     let ends = ends_of(ranges);
     write_ends(&ends, count, out)

@@ -4,10 +4,10 @@ use Rattle.std.proofs.Math.Option.{Option, none, some}
 use Rattle.std.specs.Borrow.{Bor}
 use Rattle.rules.specs.Outcome.{Outcome, good, refuse, ◌>>◌, ◌>>=◌, Told, FRAGMENT, STANDARD, COUNT}
 use Rattle.rules.specs.Bytes.{at, half, pad, part}
-use Rattle.rules.specs.Options.{optionSize, optionFits, countSaid, differs}
-use Rattle.rules.specs.Packages.{packageFits, cut}
-use Rattle.rules.specs.Message.{headerBytes, notLarge, Head, head, standardBit, fragmentBits, payloadStart, payload, optionRunLength, checksEightAndNine, checksOneToNine, everyCheck}
-use Rattle.rules.specs.Reading.{MessageSpot, messageSpot}
+use Rattle.rules.specs.Options.{option_size, option_fits, count_said, differs}
+use Rattle.rules.specs.Packages.{package_fits, cut}
+use Rattle.rules.specs.Message.{header_bytes, not_large, Head, head, standard_bit, fragment_bits, payload_start, payload, option_run_length, checks_eight_and_nine, checks_one_to_nine, every_check}
+use Rattle.rules.specs.Reading.{MessageSpot, message_spot}
 use Rattle.rules.specs.Walk.{PackageSpot}
 use Rattle.refusal.specs.Numbers.{number_of, refused}
 use Rattle.message.specs.declared.Tested.{Tested}
@@ -72,77 +72,77 @@ abbrev pub no_header : Header
 no_header = record { words = 0; flags = 0; id = record { 0 = 0 }; sequence = 0; length = 0; seconds = 0; nanos = 0; run = 0 }
 
 -- the header at the start of s, with an option run of n bytes; zeros where s has fewer than 24 bytes
-unfoldable pub headerOf : List ℕ → ℕ → Header
-headerOf s n = elim (ltb (length s) headerBytes) [ true ↦ no_header | false ↦ with_run (head s) n ]
+unfoldable pub header_of : List ℕ → ℕ → Header
+header_of s n = elim (ltb (length s) header_bytes) [ true ↦ no_header | false ↦ with_run (head s) n ]
 
-abbrev pub toldGate : Gate → Outcome (Unit {0})
-toldGate Open = good tt
-toldGate (Shut r) = refused r
+abbrev pub told_gate : Gate → Outcome (Unit {0})
+told_gate Open = good tt
+told_gate (Shut r) = refused r
 
-abbrev pub toldCount : Count → Outcome ℕ
-toldCount (count.Number n) = good n
-toldCount (count.Refused r) = refused r
+abbrev pub told_count : Count → Outcome ℕ
+told_count (count.Number n) = good n
+told_count (count.Refused r) = refused r
 
 -- what stands at the start of option bytes
-unfoldable pub optionHere : List ℕ → Opt
-optionHere o = elim (eqb (at o 0) 0) [
+unfoldable pub option_here : List ℕ → Opt
+option_here o = elim (eqb (at o 0) 0) [
   | true ↦ opt.Ends
-  | false ↦ elim (optionFits o) [ true ↦ opt.Takes (optionSize o) | false ↦ opt.Bad ]
+  | false ↦ elim (option_fits o) [ true ↦ opt.Takes (option_size o) | false ↦ opt.Bad ]
 ]
 
 -- an option of kind k would be a second 0x86 or 0x87
-unfoldable pub secondBy : Seen → ℕ → Bool
-secondBy seen k = elim (eqb k 0x86) [ true ↦ seen.offset | false ↦ elim (eqb k 0x87) [ true ↦ seen.count | false ↦ false ] ]
+unfoldable pub second_by : Seen → ℕ → Bool
+second_by seen k = elim (eqb k 0x86) [ true ↦ seen.offset | false ↦ elim (eqb k 0x87) [ true ↦ seen.count | false ↦ false ] ]
 
 -- with an option of kind k
-unfoldable pub withKind : Seen → ℕ → Seen
-withKind seen k = elim (eqb k 0x86) [
+unfoldable pub with_kind : Seen → ℕ → Seen
+with_kind seen k = elim (eqb k 0x86) [
   | true ↦ record { offset = true; count = seen.count }
   | false ↦ elim (eqb k 0x87) [ true ↦ record { offset = seen.offset; count = true } | false ↦ seen ]
 ]
 
 -- what stands at the start of option bytes, if a second one is none
-abbrev pub unlessSecond : Bool → Opt → Opt
-unlessSecond second opt.Ends = opt.Ends
-unlessSecond second (opt.Takes n) = elim second [ true ↦ opt.Bad | false ↦ opt.Takes n ]
-unlessSecond second opt.Bad = opt.Bad
+abbrev pub unless_second : Bool → Opt → Opt
+unless_second second opt.Ends = opt.Ends
+unless_second second (opt.Takes n) = elim second [ true ↦ opt.Bad | false ↦ opt.Takes n ]
+unless_second second opt.Bad = opt.Bad
 
-unfoldable pub optionNext : Seen → List ℕ → Opt
-optionNext seen o = unlessSecond (secondBy seen (at o 0)) (optionHere o)
+unfoldable pub option_next : Seen → List ℕ → Opt
+option_next seen o = unless_second (second_by seen (at o 0)) (option_here o)
 
 -- how far the option at the start of o reaches, by its length alone
-unfoldable pub optionStep : List ℕ → ℕ
-optionStep o = suc (optionSize o - 1)
+unfoldable pub option_step : List ℕ → ℕ
+option_step o = suc (option_size o - 1)
 
-abbrev pub toldSaid : Said → Option ℕ
-toldSaid said.Nothing = none
-toldSaid (said.Number c) = some c
+abbrev pub told_said : Said → Option ℕ
+told_said said.Nothing = none
+told_said (said.Number c) = some c
 
 -- what the package at the start of s takes
-unfoldable pub pieceHere : List ℕ → Piece
-pieceHere s = elim (packageFits s) [ true ↦ pieces.Takes (pad (half s 4)) | false ↦ pieces.Bad ]
+unfoldable pub piece_here : List ℕ → Piece
+piece_here s = elim (package_fits s) [ true ↦ pieces.Takes (pad (half s 4)) | false ↦ pieces.Bad ]
 
 -- how many packages there are
-unfoldable pub cutCount : ℕ → List ℕ → Outcome ℕ
-cutCount p s = do
+unfoldable pub cut_count : ℕ → List ℕ → Outcome ℕ
+cut_count p s = do
   cs ← cut p s
   good (length cs)
 
 -- 1 where there are bytes between a and e
-unfoldable pub oneIfBytes : ℕ → ℕ → ℕ
-oneIfBytes a e = elim (ltb a e) [ true ↦ 1 | false ↦ 0 ]
+unfoldable pub one_if_bytes : ℕ → ℕ → ℕ
+one_if_bytes a e = elim (ltb a e) [ true ↦ 1 | false ↦ 0 ]
 
 -- checks 8 and 9 by a header's numbers alone: a payload that ends behind its beginning has bytes
-unfoldable pub eightAndNine : ℕ → Head → Outcome (Unit {0})
-eightAndNine p h = do
-  refuse (not (eqb (fragmentBits h.flags) 0)) FRAGMENT p
-  refuse (not (eqb (standardBit h.flags) (oneIfBytes (payloadStart h) h.size))) STANDARD p
+unfoldable pub eight_and_nine : ℕ → Head → Outcome (Unit {0})
+eight_and_nine p h = do
+  refuse (not (eqb (fragment_bits h.flags) 0)) FRAGMENT p
+  refuse (not (eqb (standard_bit h.flags) (one_if_bytes (payload_start h) h.size))) STANDARD p
 
 -- ---- a header alone
 
 -- version and type can only be 1 and 0
-abbrev pub headOfHeader : Header → Head
-headOfHeader h = record {
+abbrev pub head_of_header : Header → Head
+head_of_header h = record {
   version = 1;
   words = h.words;
   kind = 0;
@@ -154,25 +154,25 @@ headOfHeader h = record {
   nanos = h.nanos;
 }
 
-abbrev pub toldHeader : HeaderRead → Outcome (Head × ℕ)
-toldHeader (headerRead.Header h) = good (headOfHeader h, h.run)
-toldHeader (headerRead.Refused r) = refused r
+abbrev pub told_header : HeaderRead → Outcome (Head × ℕ)
+told_header (headerRead.Header h) = good (head_of_header h, h.run)
+told_header (headerRead.Refused r) = refused r
 
 -- what a header that passes checks 1 to 9 leaves known of the message at the start of s, which stands at place p
 pub record Opened (s : List ℕ) (h : Header) (p : ℕ) : Type 0 where
-  pub nine : good tt ≡ eightAndNine p (headOfHeader h)
+  pub nine : good tt ≡ eight_and_nine p (head_of_header h)
   pub least : 24 + 4 * h.words ≤ h.length
   pub most : h.length ≤ length s
   pub run : 24 + h.run ≤ length s
   pub place : p + length s < 4294967296
 
 -- the zeros of a header that is refused
-abbrev pub noHead : Head
-noHead = record { version = 0; words = 0; kind = 0; flags = 0; id = 0; sequence = 0; size = 0; seconds = 0; nanos = 0 }
+abbrev pub no_head : Head
+no_head = record { version = 0; words = 0; kind = 0; flags = 0; id = 0; sequence = 0; size = 0; seconds = 0; nanos = 0 }
 
-abbrev pub headerNumbers : HeaderRead → Told (Head × ℕ)
-headerNumbers (headerRead.Header h) = record { number = 0; place = 0; values = (headOfHeader h, h.run) }
-headerNumbers (headerRead.Refused r) = record { number = number_of r.why; place = r.place; values = (noHead, 0) }
+abbrev pub header_numbers : HeaderRead → Told (Head × ℕ)
+header_numbers (headerRead.Header h) = record { number = 0; place = 0; values = (head_of_header h, h.run) }
+header_numbers (headerRead.Refused r) = record { number = number_of r.why; place = r.place; values = (no_head, 0) }
 
 -- r is a part of s, and begins at its element k: it lies in the same memory, k bytes further on
 pub record PartOf (s : Bor (List ℕ)) (k : ℕ) (r : Bor (List ℕ)) : Type 0 where
@@ -181,49 +181,49 @@ pub record PartOf (s : Bor (List ℕ)) (k : ℕ) (r : Bor (List ℕ)) : Type 0 w
 
 -- ---- a package in a run
 
-abbrev pub spotOfPackage : Package → PackageSpot
-spotOfPackage k = record { id = k.id.0; size = k.length; status = k.status; delta = k.delta; from = k.from; to = k.to; next = k.next }
+abbrev pub spot_of_package : Package → PackageSpot
+spot_of_package k = record { id = k.id.0; size = k.length; status = k.status; delta = k.delta; from = k.from; to = k.to; next = k.next }
 
-abbrev pub toldPackage : PackageRead → Outcome (Option PackageSpot)
-toldPackage (packageRead.Package k) = good (some (spotOfPackage k))
-toldPackage packageRead.End = good none
-toldPackage (packageRead.Refused r) = refused r
+abbrev pub told_package : PackageRead → Outcome (Option PackageSpot)
+told_package (packageRead.Package k) = good (some (spot_of_package k))
+told_package packageRead.End = good none
+told_package (packageRead.Refused r) = refused r
 
 -- at the end as on a refusal there is no package
-abbrev pub packageNumbers : PackageRead → Told (Option PackageSpot)
-packageNumbers (packageRead.Package k) = record { number = 0; place = 0; values = some (spotOfPackage k) }
-packageNumbers packageRead.End = record { number = 0; place = 0; values = none }
-packageNumbers (packageRead.Refused r) = record { number = number_of r.why; place = r.place; values = none }
+abbrev pub package_numbers : PackageRead → Told (Option PackageSpot)
+package_numbers (packageRead.Package k) = record { number = 0; place = 0; values = some (spot_of_package k) }
+package_numbers packageRead.End = record { number = 0; place = 0; values = none }
+package_numbers (packageRead.Refused r) = record { number = number_of r.why; place = r.place; values = none }
 
 -- ---- a message in a recording
 
 -- checks 8 to 10 and COUNT, behind an option run of n bytes
-unfoldable pub spotBehindRun : ℕ → List ℕ → Head → ℕ → Outcome MessageSpot
-spotBehindRun p s h n = do
-  checksEightAndNine p s h
-  cs ← cut (p + payloadStart h) (payload s h)
-  refuse (differs (countSaid (part headerBytes (headerBytes + n) s)) (length cs)) COUNT p
-  good (messageSpot p h (n, cs))
+unfoldable pub spot_behind_run : ℕ → List ℕ → Head → ℕ → Outcome MessageSpot
+spot_behind_run p s h n = do
+  checks_eight_and_nine p s h
+  cs ← cut (p + payload_start h) (payload s h)
+  refuse (differs (count_said (part header_bytes (header_bytes + n) s)) (length cs)) COUNT p
+  good (message_spot p h (n, cs))
 
 -- the message at the start of s, which stands at place p
-unfoldable pub messageHere : ℕ → List ℕ → Outcome MessageSpot
-messageHere p s = do
-  r ← everyCheck p s (head s)
-  good (messageSpot p (head s) r)
+unfoldable pub message_here : ℕ → List ℕ → Outcome MessageSpot
+message_here p s = do
+  r ← every_check p s (head s)
+  good (message_spot p (head s) r)
 
-abbrev pub spotOfMessage : Message → MessageSpot
-spotOfMessage m = record { head = headOfHeader m.header; run = m.header.run; payload = m.payload; next = m.next; packages = m.packages }
+abbrev pub spot_of_message : Message → MessageSpot
+spot_of_message m = record { head = head_of_header m.header; run = m.header.run; payload = m.payload; next = m.next; packages = m.packages }
 
-abbrev pub toldMessage : MessageRead → Outcome MessageSpot
-toldMessage (messageRead.Message m) = good (spotOfMessage m)
-toldMessage (messageRead.Refused r) = refused r
+abbrev pub told_message : MessageRead → Outcome MessageSpot
+told_message (messageRead.Message m) = good (spot_of_message m)
+told_message (messageRead.Refused r) = refused r
 
-abbrev pub noMessage : MessageSpot
-noMessage = record { head = noHead; run = 0; payload = 0; next = 0; packages = 0 }
+abbrev pub no_message : MessageSpot
+no_message = record { head = no_head; run = 0; payload = 0; next = 0; packages = 0 }
 
-abbrev pub messageNumbers : MessageRead → Told MessageSpot
-messageNumbers (messageRead.Message m) = record { number = 0; place = 0; values = spotOfMessage m }
-messageNumbers (messageRead.Refused r) = record { number = number_of r.why; place = r.place; values = noMessage }
+abbrev pub message_numbers : MessageRead → Told MessageSpot
+message_numbers (messageRead.Message m) = record { number = 0; place = 0; values = spot_of_message m }
+message_numbers (messageRead.Refused r) = record { number = number_of r.why; place = r.place; values = no_message }
 
 -- where a message ends, and how many packages it holds
 unfoldable pub span_of : Outcome MessageSpot → Outcome (ℕ × ℕ)
@@ -231,54 +231,54 @@ span_of o = do
   m ← o
   good (m.next, m.packages)
 
-abbrev pub toldSpan : Span → Outcome (ℕ × ℕ)
-toldSpan (span.Message next packages) = good (next, packages)
-toldSpan (span.Refused r) = refused r
+abbrev pub told_span : Span → Outcome (ℕ × ℕ)
+told_span (span.Message next packages) = good (next, packages)
+told_span (span.Refused r) = refused r
 
 -- ---- a message in a recording, its packages not looked at
 
 -- how long the option run of the message at place p of a recording is: checks 12 and 1 to 7, and 8 and 9 if they are wanted
-unfoldable pub checkedRun : List ℕ → ℕ → Bool → Outcome ℕ
-checkedRun s p nine = do
-  notLarge s
-  elim nine [ true ↦ checksOneToNine p (drop p s) (head (drop p s)) | false ↦ optionRunLength p (drop p s) (head (drop p s)) ]
+unfoldable pub checked_run : List ℕ → ℕ → Bool → Outcome ℕ
+checked_run s p nine = do
+  not_large s
+  elim nine [ true ↦ checks_one_to_nine p (drop p s) (head (drop p s)) | false ↦ option_run_length p (drop p s) (head (drop p s)) ]
 
 -- checks 12 and 1 to 9 of it
-unfoldable pub frontRun : List ℕ → ℕ → Outcome ℕ
-frontRun s p = do
-  notLarge s
-  checksOneToNine p (drop p s) (head (drop p s))
+unfoldable pub front_run : List ℕ → ℕ → Outcome ℕ
+front_run s p = do
+  not_large s
+  checks_one_to_nine p (drop p s) (head (drop p s))
 
 -- the numbers at place p of a recording, as a header with an option run of n bytes; zeros where fewer than 24 bytes stand there
-unfoldable pub headerIn : List ℕ → ℕ → ℕ → Header
-headerIn s p n = headerOf (drop p s) n
+unfoldable pub header_in : List ℕ → ℕ → ℕ → Header
+header_in s p n = header_of (drop p s) n
 
 -- the header of the message at place p, read with 12 and 1 to 9, and how long its option run is
-unfoldable pub frontAt : List ℕ → ℕ → Outcome (Head × ℕ)
-frontAt s p = do
-  notLarge s
-  n ← checksOneToNine p (drop p s) (head (drop p s))
+unfoldable pub front_at : List ℕ → ℕ → Outcome (Head × ℕ)
+front_at s p = do
+  not_large s
+  n ← checks_one_to_nine p (drop p s) (head (drop p s))
   good (head (drop p s), n)
 
 -- where the payload of a message at place p begins, and where the next message does
-abbrev pub payloadFrom : ℕ → Header → ℕ
-payloadFrom p h = p + (24 + 4 * h.words)
+abbrev pub payload_from : ℕ → Header → ℕ
+payload_from p h = p + (24 + 4 * h.words)
 
 abbrev pub next_from : ℕ → Header → ℕ
 next_from p h = p + h.length
 
 -- ---- a recording
 
-abbrev pub toldCheck : Checked → Outcome (ℕ × ℕ)
-toldCheck (checked.Passed m n) = good (m, n)
-toldCheck (checked.Refused r) = refused r
+abbrev pub told_check : Checked → Outcome (ℕ × ℕ)
+told_check (checked.Passed m n) = good (m, n)
+told_check (checked.Refused r) = refused r
 
-abbrev pub checkNumbers : Checked → Told (ℕ × ℕ)
-checkNumbers (checked.Passed m n) = record { number = 0; place = 0; values = (m, n) }
-checkNumbers (checked.Refused r) = record { number = number_of r.why; place = r.place; values = (0, 0) }
+abbrev pub check_numbers : Checked → Told (ℕ × ℕ)
+check_numbers (checked.Passed m n) = record { number = 0; place = 0; values = (m, n) }
+check_numbers (checked.Refused r) = record { number = number_of r.why; place = r.place; values = (0, 0) }
 
 -- ---- a bare run
 
-abbrev pub countNumbers : Count → Told ℕ
-countNumbers (count.Number n) = record { number = 0; place = 0; values = n }
-countNumbers (count.Refused r) = record { number = number_of r.why; place = r.place; values = 0 }
+abbrev pub count_numbers : Count → Told ℕ
+count_numbers (count.Number n) = record { number = 0; place = 0; values = n }
+count_numbers (count.Refused r) = record { number = number_of r.why; place = r.place; values = 0 }

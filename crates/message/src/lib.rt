@@ -5,7 +5,7 @@ ghost use Rattle.rules.specs.Options as options;
 ghost use Rattle.rules.specs.Message as rule;
 ghost use Rattle.rules.specs.Reading as reading;
 ghost use Rattle.rules.specs.Walk as walks;
-ghost use Rattle.rules.specs.Packages.{packageTime};
+ghost use Rattle.rules.specs.Packages.{package_time};
 ghost use Rattle.message.specs.Answers as spec;
 ghost use Rattle.message.specs.Runs as runs;
 
@@ -143,7 +143,7 @@ fn shut(why: Why, place: usize) -> Gate
 
 // Checks 1 to 6 of the message at the start of m, which stands at place p.
 fn checks_one_to_six(m: &[u8], h: Tested, p: usize) -> Gate
-    ensures { spec.toldGate result ≡ rule.checksOneToSix p m.now (spec.head_of h) }
+    ensures { spec.told_gate result ≡ rule.checks_one_to_six p m.now (spec.head_of h) }
 {
     if m.len() < 24 {
         return shut(Why::Short, p);
@@ -172,7 +172,7 @@ fn checks_one_to_six(m: &[u8], h: Tested, p: usize) -> Gate
 
 // Whether an option of kind k, 0x80 or above, may have n bytes.
 fn length_allowed(k: u8, n: u8) -> bool
-    ensures { result ≡ options.lengthAllowed k n }
+    ensures { result ≡ options.length_allowed k n }
 {
     if n < 2 {
         return false;
@@ -210,7 +210,7 @@ enum Opt {
 }
 
 fn option_here(o: &[u8]) -> Opt
-    ensures { result ≡ spec.optionHere o.now }
+    ensures { result ≡ spec.option_here o.now }
 {
     let k = wire::byte_at(o, 0);
     if k == 0 {
@@ -239,7 +239,7 @@ struct Seen {
 
 // Whether an option of kind k would be a second one.
 fn is_second(seen: Seen, k: u8) -> bool
-    ensures { result ≡ spec.secondBy seen k }
+    ensures { result ≡ spec.second_by seen k }
 {
     if k == 0x86 {
         return seen.offset;
@@ -252,7 +252,7 @@ fn is_second(seen: Seen, k: u8) -> bool
 
 // With an option of kind k.
 fn with_kind(seen: Seen, k: u8) -> Seen
-    ensures { result ≡ spec.withKind seen k }
+    ensures { result ≡ spec.with_kind seen k }
 {
     if k == 0x86 {
         return Seen {
@@ -271,7 +271,7 @@ fn with_kind(seen: Seen, k: u8) -> Seen
 
 // What stands at the start of option bytes, behind those seen: a second 0x86 or 0x87 keeps the rules no more than an option with a bad length.
 fn option_next(o: &[u8], seen: Seen) -> Opt
-    ensures { result ≡ spec.optionNext seen o.now }
+    ensures { result ≡ spec.option_next seen o.now }
 {
     let second = is_second(seen, wire::byte_at(o, 0));
     match option_here(o) {
@@ -296,7 +296,7 @@ pub enum Count {
 // How long the option run of the option bytes o is, which stand at place p: check 7.
 fn run_of(o: &[u8], p: usize) -> Count
     requires { p + length o.now < 4294967296 }
-    ensures { spec.toldCount result ≡ options.optionRunFrom [] 0 p 0 o.now }
+    ensures { spec.told_count result ≡ options.option_run_from [] 0 p 0 o.now }
 {
     let mut i = 0;
     let mut seen = Seen {
@@ -325,7 +325,7 @@ fn run_of(o: &[u8], p: usize) -> Count
 
 // How far the option at the start of o reaches, by its length alone: one byte at least.
 fn option_step(o: &[u8]) -> usize
-    ensures { (result ≡ spec.optionStep o.now) × (result < 257) }
+    ensures { (result ≡ spec.option_step o.now) × (result < 257) }
 {
     if wire::byte_at(o, 0) < 0x80 {
         return 1;
@@ -345,7 +345,7 @@ enum Said {
 }
 
 fn count_said(o: &[u8]) -> Said
-    ensures { spec.toldSaid result ≡ options.countSaid o.now }
+    ensures { spec.told_said result ≡ options.count_said o.now }
 {
     let mut i = 0;
     while i < o.len() {
@@ -361,7 +361,7 @@ fn count_said(o: &[u8]) -> Said
 // Checks 1 to 7 of the message at the start of m, which stands at place p: how long its option run is.
 fn checks_one_to_seven(m: &[u8], h: Tested, p: usize) -> Count
     requires { p + length m.now < 4294967296 }
-    ensures { spec.toldCount result ≡ rule.optionRunLength p m.now (spec.head_of h) }
+    ensures { spec.told_count result ≡ rule.option_run_length p m.now (spec.head_of h) }
 {
     match checks_one_to_six(m, h, p) {
         Gate::Shut(r) => Count::Refused(r),
@@ -375,7 +375,7 @@ fn checks_one_to_seven(m: &[u8], h: Tested, p: usize) -> Count
 // The same by the message's own numbers, of which none is read where m has fewer than 24 bytes.
 fn run_here(m: &[u8], p: usize) -> Count
     requires { p + length m.now < 4294967296 }
-    ensures { spec.toldCount result ≡ rule.optionRunLength p m.now (rule.head m.now) }
+    ensures { spec.told_count result ≡ rule.option_run_length p m.now (rule.head m.now) }
 {
     if m.len() < 24 {
         return Count::Refused(Refusal {
@@ -405,7 +405,7 @@ fn no_header() -> Header
 // The numbers of the header at the start of m, with an option run of so many bytes, and zeros where m has fewer than 24 bytes. A header is read where
 // it stands, by whoever needs its numbers, and is never handed on in memory.
 fn header_of(m: &[u8], run: usize) -> Header
-    ensures { result ≡ spec.headerOf m.now run }
+    ensures { result ≡ spec.header_of m.now run }
 {
     if m.len() < 24 {
         return no_header();
@@ -424,7 +424,7 @@ fn header_of(m: &[u8], run: usize) -> Header
 
 // The same for the header at place `at`.
 pub fn header_in(s: &[u8], at: usize, run: usize) -> Header
-    ensures { result ≡ spec.headerIn s.now at run }
+    ensures { result ≡ spec.header_in s.now at run }
 {
     if s.len() < at {
         return no_header();
@@ -434,14 +434,14 @@ pub fn header_in(s: &[u8], at: usize, run: usize) -> Header
 
 // 1 where there are bytes between a and e, and 0 otherwise.
 fn one_if_bytes(a: usize, e: usize) -> u8
-    ensures { result ≡ spec.oneIfBytes a e }
+    ensures { result ≡ spec.one_if_bytes a e }
 {
     if a < e { 1 } else { 0 }
 }
 
 // Checks 8 and 9 of a message at place p with this header: its payload has bytes where it ends behind its beginning.
 fn checks_eight_and_nine(h: Header, p: usize) -> Gate
-    ensures { spec.toldGate result ≡ spec.eightAndNine p (spec.headOfHeader h) }
+    ensures { spec.told_gate result ≡ spec.eight_and_nine p (spec.head_of_header h) }
 {
     if h.flags / 16 % 4 != 0 {
         return shut(Why::Fragment, p);
@@ -456,7 +456,7 @@ fn checks_eight_and_nine(h: Header, p: usize) -> Gate
 
 // Checks 12 and 1 to 7 of the message at place `at` of a recording, and 8 and 9 if they are wanted: how long its option run is.
 fn checked_run(s: &[u8], at: usize, nine: bool) -> Count
-    ensures { spec.toldCount result ≡ spec.checkedRun s.now at nine }
+    ensures { spec.told_count result ≡ spec.checked_run s.now at nine }
 {
     if 65536 < s.len() {
         return Count::Refused(Refusal {
@@ -484,7 +484,7 @@ fn checked_run(s: &[u8], at: usize, nine: bool) -> Count
 
 // The header of the message at the start of s.
 pub fn read_header(s: &[u8]) -> HeaderRead
-    ensures { spec.toldHeader result ≡ reading.header s.now }
+    ensures { spec.told_header result ≡ reading.header s.now }
 {
     match checked_run(s, 0, false) {
         Count::Refused(r) => HeaderRead::Refused(r),
@@ -494,7 +494,7 @@ pub fn read_header(s: &[u8]) -> HeaderRead
 
 // Its option run, as a part of s; empty where the header is refused.
 pub fn option_run(s: &[u8]) -> &[u8]
-    ensures { (result.now ≡ reading.optionRun s.now) × spec.PartOf s.entry (reading.optionStart s.now) result }
+    ensures { (result.now ≡ reading.option_run s.now) × spec.PartOf s.entry (reading.option_start s.now) result }
 {
     match read_header(s) {
         HeaderRead::Refused(_) => &s[0..0],
@@ -520,7 +520,7 @@ fn round_up(n: usize) -> usize
 }
 
 fn piece_here(s: &[u8]) -> Piece
-    ensures { result ≡ spec.pieceHere s.now }
+    ensures { result ≡ spec.piece_here s.now }
 {
     if s.len() < 12 {
         return Piece::Bad;
@@ -538,7 +538,7 @@ fn piece_here(s: &[u8]) -> Piece
 
 // The package at place `at` of a run.
 pub fn package_at(s: &[u8], at: usize) -> PackageRead
-    ensures { spec.toldPackage result ≡ walks.packageAt s.now at }
+    ensures { spec.told_package result ≡ walks.package_at s.now at }
 {
     if 65536 < s.len() {
         return PackageRead::Refused(Refusal {
@@ -578,7 +578,7 @@ pub fn package_at(s: &[u8], at: usize) -> PackageRead
 
 // The time of a package in nanoseconds.
 pub fn package_time(seconds: u32, nanos: u32, delta: u32) -> u64
-    ensures { result ≡ packageTime seconds nanos delta }
+    ensures { result ≡ package_time seconds nanos delta }
 {
     (seconds as u64) * 1000000000 + (nanos as u64) + (delta as u64)
 }
@@ -587,7 +587,7 @@ pub fn package_time(seconds: u32, nanos: u32, delta: u32) -> u64
 // before it, and is read a step sooner where it begins than at a place behind where q begins.
 fn packages_of(q: &[u8], p: usize) -> Count
     requires { p + length q.now < 4294967296 }
-    ensures { spec.toldCount result ≡ spec.cutCount p q.now }
+    ensures { spec.told_count result ≡ spec.cut_count p q.now }
 {
     let mut rest = q;
     let mut n = 0;
@@ -606,7 +606,7 @@ fn packages_of(q: &[u8], p: usize) -> Count
 
 // Whether an option run says another number of packages.
 pub fn miscounts(run: &[u8], packages: usize) -> bool
-    ensures { result ≡ options.differs (options.countSaid run.now) packages }
+    ensures { result ≡ options.differs (options.count_said run.now) packages }
 {
     match count_said(run) {
         Said::Nothing => false,
@@ -617,7 +617,7 @@ pub fn miscounts(run: &[u8], packages: usize) -> bool
 // Check 10 and COUNT of the message at the start of m, which stands at place p and has this header.
 fn checks_from_ten(m: &[u8], h: Header, p: usize) -> MessageRead
     requires { spec.Opened m.now h p }
-    ensures { spec.toldMessage result ≡ spec.spotBehindRun p m.now (spec.headOfHeader h) h.run }
+    ensures { spec.told_message result ≡ spec.spot_behind_run p m.now (spec.head_of_header h) h.run }
 {
     let a = payload_start(h.words);
     let e = wide32(h.length);
@@ -643,7 +643,7 @@ fn checks_from_ten(m: &[u8], h: Header, p: usize) -> MessageRead
 
 // Whether the message at the start of m, which stands at place p, has no options and passes checks 1 to 9: so do nearly all.
 fn is_plain(m: &[u8], p: usize) -> bool
-    ensures { result ≡ true → rule.checksOneToNine p m.now (rule.head m.now) ≡ good 0 }
+    ensures { result ≡ true → rule.checks_one_to_nine p m.now (rule.head m.now) ≡ good 0 }
 {
     if m.len() < 24 {
         return false;
@@ -663,7 +663,7 @@ fn is_plain(m: &[u8], p: usize) -> bool
 
 // The same for the message at place `at` of a recording that is not too large.
 fn plain_at(s: &[u8], at: usize) -> bool
-    ensures { result ≡ true → spec.frontRun s.now at ≡ good 0 }
+    ensures { result ≡ true → spec.front_run s.now at ≡ good 0 }
 {
     if 65536 < s.len() {
         return false;
@@ -677,7 +677,7 @@ fn plain_at(s: &[u8], at: usize) -> bool
 // How long the option run of the message at place `at` of a recording is, which is checked but for its packages: 12 and 1 to 9. A plain message needs
 // no call.
 pub fn front_run(s: &[u8], at: usize) -> Count
-    ensures { spec.toldCount result ≡ spec.frontRun s.now at }
+    ensures { spec.told_count result ≡ spec.front_run s.now at }
 {
     if plain_at(s, at) {
         return Count::Number(0);
@@ -691,7 +691,7 @@ pub fn front_run(s: &[u8], at: usize) -> Count
 
 // The header of the message at place `at` of a recording, which is checked so.
 pub fn front_at(s: &[u8], at: usize) -> HeaderRead
-    ensures { spec.toldHeader result ≡ spec.frontAt s.now at }
+    ensures { spec.told_header result ≡ spec.front_at s.now at }
 {
     match front_run(s, at) {
         Count::Refused(r) => HeaderRead::Refused(r),
@@ -701,7 +701,7 @@ pub fn front_at(s: &[u8], at: usize) -> HeaderRead
 
 // The message at place `at` of a recording.
 pub fn message_at(s: &[u8], at: usize) -> MessageRead
-    ensures { spec.toldMessage result ≡ reading.messageAt s.now at }
+    ensures { spec.told_message result ≡ reading.message_at s.now at }
 {
     let run = if plain_at(s, at) {
         0
@@ -728,7 +728,7 @@ enum Span {
 // recording, and what it says stays in registers.
 fn span_from_ten(m: &[u8], h: Header, p: usize) -> Span
     requires { spec.Opened m.now h p }
-    ensures { spec.toldSpan result ≡ spec.span_of (spec.spotBehindRun p m.now (spec.headOfHeader h) h.run) }
+    ensures { spec.told_span result ≡ spec.span_of (spec.spot_behind_run p m.now (spec.head_of_header h) h.run) }
 {
     let from = payload_start(h.words);
     let to = wide32(h.length);
@@ -750,7 +750,7 @@ fn span_from_ten(m: &[u8], h: Header, p: usize) -> Span
 // The span of the message at place `at` of a recording. As `message_at` it calls `checked_run` itself, which then stays a function by itself in every
 // program that has `check` and `front_run`, so that these become part of their callers' loops.
 fn span_at(s: &[u8], at: usize) -> Span
-    ensures { spec.toldSpan result ≡ spec.span_of (reading.messageAt s.now at) }
+    ensures { spec.told_span result ≡ spec.span_of (reading.message_at s.now at) }
 {
     let run = if plain_at(s, at) {
         0
@@ -768,7 +768,7 @@ fn span_at(s: &[u8], at: usize) -> Span
 
 // How many messages and packages a recording has.
 pub fn check(s: &[u8]) -> Checked
-    ensures { spec.toldCheck result ≡ reading.checkedRecording s.now }
+    ensures { spec.told_check result ≡ reading.checked_recording s.now }
 {
     if 65536 < s.len() {
         return Checked::Refused(Refusal {
@@ -796,7 +796,7 @@ pub fn check(s: &[u8]) -> Checked
 
 // How long the run of a bare list of options is: LARGE, then check 7 with places in the list.
 pub fn option_run_length(o: &[u8]) -> Count
-    ensures { spec.toldCount result ≡ runs.optionsOf o.now }
+    ensures { spec.told_count result ≡ runs.options_of o.now }
 {
     if 65536 < o.len() {
         return Count::Refused(Refusal {
@@ -809,7 +809,7 @@ pub fn option_run_length(o: &[u8]) -> Count
 
 // How many packages a bare run holds: LARGE, then check 10 with places in the run.
 pub fn count_packages(q: &[u8]) -> Count
-    ensures { spec.toldCount result ≡ runs.cut_of q.now }
+    ensures { spec.told_count result ≡ runs.cut_of q.now }
 {
     if 65536 < q.len() {
         return Count::Refused(Refusal {

@@ -16,9 +16,9 @@ use Rattle.numbered.specs.declared.Answer.TheVariants as answer
 use Rattle.numbered.specs.declared.Counted.{Counted}
 use Rattle.numbered.specs.declared.Numbered.{Numbered}
 use Rattle.numbered.specs.Numbering.{State}
-use Rattle.numbered.specs.Quota.{badIds, Report, settled, measuredIds, atZero, shorter}
+use Rattle.numbered.specs.Quota.{bad_ids, Report, settled, measured_ids, at_zero, shorter}
 use Rattle.numbered.specs.Parts.{Most}
-use Rattle.numbered.specs.Told.{toldMeasure, Counts, told, toldIds}
+use Rattle.numbered.specs.Told.{told_measure, Counts, told, told_ids}
 use Rattle.numbered.proofs.Whole.{most-ids, ids-refused, sheet-refused, messages-refused, done-ids}
 
 module _ (input sheetBytes : List ℕ) (quota : ℕ) (ids : List ℕ) (held most : ℕ) (inside : most ≤ length ids) (small : most ≤ 64) where
@@ -32,23 +32,23 @@ module _ (input sheetBytes : List ℕ) (quota : ℕ) (ids : List ℕ) (held most
   within = most-ids ids held most inside small
 
   -- what a copy tells, without numbers and buffer
-  as-copied : (r : Numbered) (ids' next' out : List ℕ) → told r ids' next' out ≡ settled false most input sheetBytes quota (atZero ids held) buffer → toldIds r ids' ≡ measuredIds most input sheetBytes quota ids held
-  unfolding settled measuredIds
-  as-copied r ids' next' out e = ap (λ (x : Report × State × List ℕ). (x.0, x.1.ids, x.1.held)) e
+  as_copied : (r : Numbered) (ids' next' out : List ℕ) → told r ids' next' out ≡ settled false most input sheetBytes quota (at_zero ids held) buffer → told_ids r ids' ≡ measured_ids most input sheetBytes quota ids held
+  unfolding settled measured_ids
+  as_copied r ids' next' out e = ap (λ (x : Report × State × List ℕ). (x.0, x.1.ids, x.1.held)) e
 
-  pub ids-bad : true ≡ badIds most ids held → toldIds (record { answer = answer.Refused (record { why = Ids; place = 0 }); held = held }) ids ≡ measuredIds most input sheetBytes quota ids held
-  ids-bad e = as-copied (record { answer = answer.Refused (record { why = Ids; place = 0 }); held = held }) ids zeros buffer (ids-refused input sheetBytes quota ids zeros held buffer most within false e)
+  pub ids-bad : true ≡ bad_ids most ids held → told_ids (record { answer = answer.Refused (record { why = Ids; place = 0 }); held = held }) ids ≡ measured_ids most input sheetBytes quota ids held
+  ids-bad e = as_copied (record { answer = answer.Refused (record { why = Ids; place = 0 }); held = held }) ids zeros buffer (ids-refused input sheetBytes quota ids zeros held buffer most within false e)
 
-  module _ (good-ids : badIds most ids held ≡ false) where
-    pub sheet-bad : (f : Refusal) → rows.sheet sheetBytes ≡ bad (number_of f.why) f.place → toldIds (record { answer = answer.Refused f; held = held }) ids ≡ measuredIds most input sheetBytes quota ids held
-    sheet-bad f e = as-copied (record { answer = answer.Refused f; held = held }) ids zeros buffer (sheet-refused input sheetBytes quota ids zeros held buffer most within false good-ids f e)
+  module _ (good-ids : bad_ids most ids held ≡ false) where
+    pub sheet-bad : (f : Refusal) → rows.sheet sheetBytes ≡ bad (number_of f.why) f.place → told_ids (record { answer = answer.Refused f; held = held }) ids ≡ measured_ids most input sheetBytes quota ids held
+    sheet-bad f e = as_copied (record { answer = answer.Refused f; held = held }) ids zeros buffer (sheet-refused input sheetBytes quota ids zeros held buffer most within false good-ids f e)
 
     module _ (rs : List rows.Row) (valid : rows.sheet sheetBytes ≡ good rs) (fresh marks : List ℕ) (long : length fresh ≡ 64) (r : Counted) (counts : Counts rs input quota (take held ids) (most - held) fresh marks r) where
-      pub messages-bad : (f : Refusal) → r.answer ≡ answer.Refused f → toldIds (record { answer = answer.Refused f; held = held }) ids ≡ measuredIds most input sheetBytes quota ids held
-      messages-bad f e = as-copied (record { answer = answer.Refused f; held = held }) ids zeros buffer (messages-refused input sheetBytes quota ids zeros held buffer most within rs valid false good-ids f (ap toldMeasure (sym e) ∙ counts.told))
+      pub messages-bad : (f : Refusal) → r.answer ≡ answer.Refused f → told_ids (record { answer = answer.Refused f; held = held }) ids ≡ measured_ids most input sheetBytes quota ids held
+      messages-bad f e = as_copied (record { answer = answer.Refused f; held = held }) ids zeros buffer (messages-refused input sheetBytes quota ids zeros held buffer most within rs valid false good-ids f (ap told_measure (sym e) ∙ counts.told))
 
-      pub all-counted : (p : Progress) → r.answer ≡ answer.Done p → toldIds (record { answer = answer.Done p; held = held + r.many }) (sets ids held (take r.many fresh)) ≡ measuredIds most input sheetBytes quota ids held
+      pub all-counted : (p : Progress) → r.answer ≡ answer.Done p → told_ids (record { answer = answer.Done p; held = held + r.many }) (sets ids held (take r.many fresh)) ≡ measured_ids most input sheetBytes quota ids held
       all-counted p e =
-          let (next', out, w) = done-ids input sheetBytes quota ids zeros held buffer most within rs valid p good-ids (ap toldMeasure (sym e) ∙ counts.told)
+          let (next', out, w) = done-ids input sheetBytes quota ids zeros held buffer most within rs valid p good-ids (ap told_measure (sym e) ∙ counts.told)
           (omega (arith, length-replicate {A = ℕ} 65536 0, counts.small p e)) fresh r.many (omega (arith, long, counts.few p e)) (counts.ids p e (omega arith)) in
-          as-copied (record { answer = answer.Done p; held = held + r.many }) (sets ids held (take r.many fresh)) next' out w
+          as_copied (record { answer = answer.Done p; held = held + r.many }) (sets ids held (take r.many fresh)) next' out w

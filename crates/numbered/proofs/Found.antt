@@ -11,10 +11,10 @@ use lib.Seq.{take-take, length-take-le}
 use borrow.Author.Tests.{lt-leb, not-false, le-ltb}
 use Rattle.rules.specs.Outcome.{Outcome, good, bad, ◌>>=◌}
 use Rattle.rules.specs.Bytes.{Bytes, half, word, pad, part}
-use Rattle.rules.specs.Packages.{piece, packageOf, piece_of, Piece}
-use Rattle.rules.proofs.Outcomes.{pass, passed, stepped, good-inj, some_inj, none≢some, refused-only}
-use Rattle.rules.proofs.Cut.{Fit, fit, piece-of}
-use Rattle.rules.specs.Clean.{cleanPiece}
+use Rattle.rules.specs.Packages.{piece, package_of, piece_of, Piece}
+use Rattle.rules.proofs.Outcomes.{pass, passed, stepped, good_inj, some_inj, none≢some, refused-only}
+use Rattle.rules.proofs.Cut.{Fit, fit, piece_of_lem}
+use Rattle.rules.specs.Clean.{clean_piece}
 use Rattle.rules.proofs.Pieces.{length-padded}
 use Rattle.rules.proofs.Numbers.{bytes_drop, bytes_take}
 use Rattle.rules.proofs.Cleaned.{piece-clean}
@@ -22,10 +22,10 @@ use Rattle.refusal.specs.declared.Refusal.{Refusal}
 use Rattle.refusal.specs.Numbers.{number_of}
 use Rattle.message.specs.declared.Package.{Package}
 use Rattle.message.specs.declared.PackageRead.TheVariants as P
-use Rattle.message.specs.Answers.{toldPackage}
+use Rattle.message.specs.Answers.{told_package}
 use Rattle.message.proofs.Moved.{moved}
-use Rattle.rules.specs.Walk.{PackageSpot, packageSpot, packageAt}
-use Rattle.numbered.specs.Parts.{pieceAs, Placed}
+use Rattle.rules.specs.Walk.{PackageSpot, package_spot, package_at}
+use Rattle.numbered.specs.Parts.{piece_as, Placed}
 
 -- ---- one package
 
@@ -39,7 +39,7 @@ pub taken : (p : ℕ) (t : List ℕ) (r : List ℕ × ℕ) → piece p t ≡ goo
 unfolding piece
 taken p t r e =
     let (a, g) = passed _ _ _ _ e in
-    let q = good-inj g in
+    let q = good_inj g in
     record {
       fits = fit t (not-false _ a);
       bytes = ap (λ (x : List ℕ × ℕ). x.0) (sym q);
@@ -51,39 +51,39 @@ pub record Found (run : List ℕ) (k : ℕ) (p : Package) : Type 0 where
   pub c : List ℕ
   pub n : ℕ
   pub read : piece k (drop k run) ≡ good (c, n)
-  pub spot : packageSpot k c n ≡ record { id = p.id.0; size = p.length; status = p.status; delta = p.delta; from = p.from; to = p.to; next = p.next }
+  pub spot : package_spot k c n ≡ record { id = p.id.0; size = p.length; status = p.status; delta = p.delta; from = p.from; to = p.to; next = p.next }
 
 module _ (run : List ℕ) (k : ℕ) where
   abbrev Rest : Bool → Outcome (Option PackageSpot)
   Rest b = elim b [
     | true ↦ good none
-    | false ↦ piece k (drop k run) >>= (λ (r : List ℕ × ℕ). good (some (packageSpot k r.0 r.1)))
+    | false ↦ piece k (drop k run) >>= (λ (r : List ℕ × ℕ). good (some (package_spot k r.0 r.1)))
   ]
 
-  pub found : (p : Package) → toldPackage (P.Package p) ≡ packageAt run k → Found run k p
-  unfolding packageAt
+  pub found : (p : Package) → told_package (P.Package p) ≡ package_at run k → Found run k p
+  unfolding package_at
   found p e = let (large, g) = passed _ _ _ _ (sym e) in go (leb (length run) k) g
     where
-      go : (b : Bool) → Rest b ≡ toldPackage (P.Package p) → Found run k p
-      go true g = absurd (none≢some (good-inj g))
+      go : (b : Bool) → Rest b ≡ told_package (P.Package p) → Found run k p
+      go true g = absurd (none≢some (good_inj g))
       go false g =
           let (r, q, f) = stepped _ _ g in
-          record { c = r.0; n = r.1; read = q; spot = some_inj (good-inj f) }
+          record { c = r.0; n = r.1; read = q; spot = some_inj (good_inj f) }
 
   module _ (small : length run ≤ 65536) (inside : k < length run) where
-    rest-is : packageAt run k ≡ Rest false
-    unfolding packageAt
+    rest-is : package_at run k ≡ Rest false
+    unfolding package_at
     rest-is = pass _ _ _ _ (le-ltb 65536 (length run) small) (rw (lt-leb (length run) k inside))
 
     -- there is no end before the end
-    pub no_end : toldPackage P.End ≡ packageAt run k → ⊥
+    pub no_end : told_package P.End ≡ package_at run k → ⊥
     no_end e =
         let (r, q, f) = stepped _ _ (sym rest-is ∙ sym e) in
-        none≢some (sym (good-inj f))
+        none≢some (sym (good_inj f))
 
     -- a package that is refused
-    pub no-piece : (f : Refusal) → toldPackage (P.Refused f) ≡ packageAt run k → piece k (drop k run) ≡ bad (number_of f.why) f.place
-    no-piece f e = refused-only _ _ (sym rest-is ∙ sym e)
+    pub no_piece : (f : Refusal) → told_package (P.Refused f) ≡ package_at run k → piece k (drop k run) ≡ bad (number_of f.why) f.place
+    no_piece f e = refused-only _ _ (sym rest-is ∙ sym e)
 
 take-drop-take : (a m n : ℕ) (l : List ℕ) → a + m ≤ n → take m (drop a (take n l)) ≡ take m (drop a l)
 take-drop-take zero m n l h = take-take m n l (omega arith)
@@ -99,7 +99,7 @@ module _ (run : List ℕ) (k : ℕ) (p : Package) (f : Found run k p) where
   is-taken = taken k t (f.c, f.n) f.read
 
   pub is-piece : Piece f.c
-  is-piece = rw is-taken.bytes (piece-of t is-taken.fits)
+  is-piece = rw is-taken.bytes (piece_of_lem t is-taken.fits)
 
   pub piece-size : f.n ≡ pad (half f.c 4)
   piece-size =
@@ -107,19 +107,19 @@ module _ (run : List ℕ) (k : ℕ) (p : Package) (f : Found run k p) where
       is-taken.size ∙ sym l ∙ is-piece.whole
 
   pub id-is : word f.c 0 ≡ p.id.0
-  unfolding packageSpot
+  unfolding package_spot
   id-is = ap (λ (x : PackageSpot). x.id) f.spot
 
   pub delta-is : word f.c 8 ≡ p.delta
-  unfolding packageSpot
+  unfolding package_spot
   delta-is = ap (λ (x : PackageSpot). x.delta) f.spot
 
   to_is : k + half f.c 4 ≡ p.to
-  unfolding packageSpot
+  unfolding package_spot
   to_is = ap (λ (x : PackageSpot). x.to) f.spot
 
   pub next-is : k + f.n ≡ p.next
-  unfolding packageSpot
+  unfolding package_spot
   next-is = ap (λ (x : PackageSpot). x.next) f.spot
 
   pub least : 12 ≤ f.n
@@ -142,8 +142,8 @@ module _ (run : List ℕ) (k : ℕ) (p : Package) (f : Found run k p) where
   part-there : (a e : ℕ) → a ≤ e → e ≤ f.n → part a e t ≡ part a e f.c
   part-there a e h l = sym (ap (λ (s : List ℕ). take (e - a) (drop a s)) is-taken.bytes ∙ take-drop-take a (e - a) (pad (half t 4)) t (omega (arith, is-taken.size)))
 
-  pub piece-length : length (piece_of (packageOf f.c)) ≡ f.n
-  unfolding piece_of packageOf
+  pub piece-length : length (piece_of (package_of f.c)) ≡ f.n
+  unfolding piece_of package_of
   piece-length =
       let l : 12 + length (part 12 (half f.c 4) f.c) ≡ half f.c 4 = content-size in
       omega (arith, length-padded (part 12 (half f.c 4) f.c), piece-size)
@@ -168,8 +168,8 @@ module _ (run : List ℕ) (k : ℕ) (p : Package) (f : Found run k (moved k p)) 
       }
 
   -- its bytes, reserved byte and padding zero, are those that its numbers are written as
-  pub piece_is : Bytes run → pieceAs there p ≡ piece_of (packageOf f.c)
-  unfolding pieceAs cleanPiece
+  pub piece_is : Bytes run → piece_as there p ≡ piece_of (package_of f.c)
+  unfolding piece_as clean_piece
   piece_is y =
       let piece = is-piece run k (moved k p) f in
       let taken = is-taken run k (moved k p) f in

@@ -13,16 +13,16 @@ use borrow.Author.Tests.{ltb-true, ltb-false, eqb-false, eq-eqb}
 use Rattle.rules.specs.Items.{count, none}
 use Rattle.rules.specs.Packages as rules
 use Rattle.rules.specs.Outcome.{good}
-use Rattle.rules.specs.Packages.{cut, packageOf}
+use Rattle.rules.specs.Packages.{cut, package_of}
 use Rattle.rules.proofs.Cut as Cut
 use Rattle.rules.specs.Message.{Message}
 use Rattle.rules.specs.Sheet as rows
-use Rattle.rules.specs.Copy.{granted, grantedPackages}
+use Rattle.rules.specs.Copy.{granted, granted_packages}
 use Rattle.rules.proofs.Growing.{map-append}
-use Rattle.wire.specs.Bits.{bitAt, withBit, withBitIf}
+use Rattle.wire.specs.Bits.{bit_at, with_bit, with_bit_if}
 use Rattle.wire.proofs.Bits.{bit-small, bit-set, bit_kept, bit-zeros, length-with}
-use Rattle.message.proofs.Messages.{fill-least}
-use Rattle.numbered.specs.Parts.{kept, flags_of, flagsIn, Tells, picked, Place, slotOf, Sees}
+use Rattle.message.proofs.Messages.{fill_least}
+use Rattle.numbered.specs.Parts.{kept, flags_of, flags_in, Tells, picked, Place, slot_of, Sees}
 use Rattle.numbered.proofs.Seeking.{count-append, count-other}
 
 -- ---- flags in a list
@@ -32,11 +32,11 @@ get_first [] gs i l = absurd (omega arith)
 get_first (f ∷ fs) gs zero l = refl
 get_first (f ∷ fs) gs (suc i) l = get_first fs gs i (omega arith)
 
-get-behind : (fs gs : List Bool) (i : ℕ) → get_or (fs ++ gs) (length fs + i) false ≡ get_or gs i false
-get-behind [] gs i = ap (λ (n : ℕ). get_or gs n false) (zero-add i)
-get-behind (f ∷ fs) gs i =
+get_behind : (fs gs : List Bool) (i : ℕ) → get_or (fs ++ gs) (length fs + i) false ≡ get_or gs i false
+get_behind [] gs i = ap (λ (n : ℕ). get_or gs n false) (zero-add i)
+get_behind (f ∷ fs) gs i =
     let e : suc (length fs) + i ≡ suc (length fs + i) = omega arith in
-    ap (λ (n : ℕ). get_or (f ∷ fs ++ gs) n false) e ∙ get-behind fs gs i
+    ap (λ (n : ℕ). get_or (f ∷ fs ++ gs) n false) e ∙ get_behind fs gs i
 
 -- no flag is told by zeros
 pub tells_none : (n : ℕ) → Tells (replicate n 0) []
@@ -44,53 +44,53 @@ tells_none n = record { each = λ i l. absurd (omega arith); rest = λ i l. bit-
 
 -- one flag more
 module _ (marks : List ℕ) (fs : List Bool) (t : Tells marks fs) (room : length fs / 8 < length marks) where
-  old : (b : Bool) (i : ℕ) → (length fs ≡ i → ⊥) → bitAt (withBitIf marks (length fs) b) i ≡ bitAt marks i
-  unfolding withBitIf
+  old : (b : Bool) (i : ℕ) → (length fs ≡ i → ⊥) → bit_at (with_bit_if marks (length fs) b) i ≡ bit_at marks i
+  unfolding with_bit_if
   old true i ne = bit_kept marks (length fs) i ne
   old false i ne = refl
 
-  new : (b : Bool) → eqb (bitAt (withBitIf marks (length fs) b) (length fs)) 1 ≡ b
-  unfolding withBitIf
+  new : (b : Bool) → eqb (bit_at (with_bit_if marks (length fs) b) (length fs)) 1 ≡ b
+  unfolding with_bit_if
   new true = eq-eqb _ _ (bit-set marks (length fs) room)
   new false = rw (t.rest (length fs) (omega arith)) refl
 
-  pub tells_more : (b : Bool) → Tells (withBitIf marks (length fs) b) (fs ++ (b ∷ []))
+  pub tells_more : (b : Bool) → Tells (with_bit_if marks (length fs) b) (fs ++ (b ∷ []))
   tells_more b = record {
     each = λ i l. go i l (ltb i (length fs)) refl;
     rest = λ i l. old b i (λ e. omega (arith, length-append fs (b ∷ []))) ∙ t.rest i (omega (arith, length-append fs (b ∷ [])));
   }
     where
-      go : (i : ℕ) → i < length (fs ++ (b ∷ [])) → (x : Bool) → ltb i (length fs) ≡ x → eqb (bitAt (withBitIf marks (length fs) b) i) 1 ≡ get_or (fs ++ (b ∷ [])) i false
+      go : (i : ℕ) → i < length (fs ++ (b ∷ [])) → (x : Bool) → ltb i (length fs) ≡ x → eqb (bit_at (with_bit_if marks (length fs) b) i) 1 ≡ get_or (fs ++ (b ∷ [])) i false
       go i l true e =
           let h = ltb-true i (length fs) e in
           ap (λ (n : ℕ). eqb n 1) (old b i (λ q. omega arith)) ∙ t.each i h ∙ sym (get_first fs (b ∷ []) i h)
       go i l false e =
           let h : i ≡ length fs = omega (arith, ltb-false i (length fs) e, length-append fs (b ∷ [])) in
-          rw h (new b ∙ sym (ap (λ (n : ℕ). get_or (fs ++ (b ∷ [])) n false) (sym (add-zero (length fs))) ∙ get-behind fs (b ∷ []) 0))
+          rw h (new b ∙ sym (ap (λ (n : ℕ). get_or (fs ++ (b ∷ [])) n false) (sym (add-zero (length fs))) ∙ get_behind fs (b ∷ []) 0))
 
 -- ---- flags of pieces and of messages
 
-pub flags-more : (rs : List rows.Row) (m : Message) (cs : List (List ℕ)) (c : List ℕ) → flags_of rs m (cs ++ (c ∷ [])) ≡ flags_of rs m cs ++ (granted rs m (packageOf c) ∷ [])
+pub flags-more : (rs : List rows.Row) (m : Message) (cs : List (List ℕ)) (c : List ℕ) → flags_of rs m (cs ++ (c ∷ [])) ≡ flags_of rs m cs ++ (granted rs m (package_of c) ∷ [])
 unfolding flags_of
-flags-more rs m cs c = map-append (λ c. granted rs m (packageOf c)) cs (c ∷ [])
+flags-more rs m cs c = map-append (λ c. granted rs m (package_of c)) cs (c ∷ [])
 
 pub flags_long : (rs : List rows.Row) (m : Message) (cs : List (List ℕ)) → length (flags_of rs m cs) ≡ length cs
 unfolding flags_of
-flags_long rs m cs = length-map cs (λ c. granted rs m (packageOf c))
+flags_long rs m cs = length-map cs (λ c. granted rs m (package_of c))
 
-pub flags_joined : (rs : List rows.Row) (ms ks : List Message) → flagsIn rs (ms ++ ks) ≡ flagsIn rs ms ++ flagsIn rs ks
-unfolding flagsIn
+pub flags_joined : (rs : List rows.Row) (ms ks : List Message) → flags_in rs (ms ++ ks) ≡ flags_in rs ms ++ flags_in rs ks
+unfolding flags_in
 flags_joined rs [] ks = refl
-flags_joined rs (m ∷ ms) ks = rw (flags_joined rs ms ks) (sym (append_assoc (map (granted rs m) m.packages) (flagsIn rs ms) (flagsIn rs ks)))
+flags_joined rs (m ∷ ms) ks = rw (flags_joined rs ms ks) (sym (append_assoc (map (granted rs m) m.packages) (flags_in rs ms) (flags_in rs ks)))
 
 pub pieces-few : (run : List ℕ) (cs : List (List ℕ)) → cut 0 run ≡ good cs → 12 * length cs ≤ length run
-pieces-few run cs e = fill-least (Cut.sound 0 0 run e)
+pieces-few run cs e = fill_least (Cut.sound 0 0 run e)
 
 -- ---- what is marked is what is granted
 
 -- bits from `first` on are the flags of these pieces
 pub record Shows (rs : List rows.Row) (m : Message) (marks : List ℕ) (first : ℕ) (cs : List (List ℕ)) : Type 0 where
-  pub each : (i : ℕ) → i < length cs → eqb (bitAt marks (first + i)) 1 ≡ get_or (flags_of rs m cs) i false
+  pub each : (i : ℕ) → i < length cs → eqb (bit_at marks (first + i)) 1 ≡ get_or (flags_of rs m cs) i false
 
 shows-rest : (rs : List rows.Row) (m : Message) (marks : List ℕ) (first : ℕ) (c : List ℕ) (cs : List (List ℕ)) → Shows rs m marks first (c ∷ cs) → Shows rs m marks (first + 1) cs
 unfolding flags_of
@@ -101,9 +101,9 @@ pub shows-part : (rs : List rows.Row) (m : Message) (marks : List ℕ) (first : 
 shows-part rs m marks first fs gs cs e t = record {
   each = λ i l.
       let n = flags_long rs m cs in
-      ap (λ (n : ℕ). eqb (bitAt marks (n + i)) 1) e
+      ap (λ (n : ℕ). eqb (bit_at marks (n + i)) 1) e
       ∙ t.each (length fs + i) (omega (arith, length-append fs (flags_of rs m cs ++ gs), length-append (flags_of rs m cs) gs))
-      ∙ get-behind fs (flags_of rs m cs ++ gs) i ∙ get_first (flags_of rs m cs) gs i (omega arith);
+      ∙ get_behind fs (flags_of rs m cs ++ gs) i ∙ get_first (flags_of rs m cs) gs i (omega arith);
 }
 
 alike : (a b : Bool) (p : rules.Package) (ps qs : List rules.Package) → a ≡ b → ps ≡ qs
@@ -111,11 +111,11 @@ alike : (a b : Bool) (p : rules.Package) (ps qs : List rules.Package) → a ≡ 
 alike a b p ps qs e f = ap (λ (x : Bool). elim x [ true ↦ p ∷ ps | false ↦ ps ]) e ∙ ap (λ (l : List rules.Package). elim b [ true ↦ p ∷ l | false ↦ l ]) f
 
 pub picked-is : (rs : List rows.Row) (m : Message) (marks : List ℕ) (first : ℕ) (cs : List (List ℕ)) → Shows rs m marks first cs → picked marks first cs ≡ kept rs m cs
-unfolding picked kept grantedPackages flags_of
+unfolding picked kept granted_packages flags_of
 picked-is rs m marks first [] s = refl
 picked-is rs m marks first (c ∷ cs) s =
-    let h : eqb (bitAt marks first) 1 ≡ granted rs m (packageOf c) = ap (λ (n : ℕ). eqb (bitAt marks n) 1) (sym (add-zero first)) ∙ s.each 0 (omega arith) in
-    alike _ _ (packageOf c) _ _ h (picked-is rs m marks (first + 1) cs (shows-rest rs m marks first c cs s))
+    let h : eqb (bit_at marks first) 1 ≡ granted rs m (package_of c) = ap (λ (n : ℕ). eqb (bit_at marks n) 1) (sym (add-zero first)) ∙ s.each 0 (omega arith) in
+    alike _ _ (package_of c) _ _ h (picked-is rs m marks (first + 1) cs (shows-rest rs m marks first c cs s))
 
 -- ps, with p behind them if it is picked
 abbrev pub grow : Bool → List rules.Package → rules.Package → List rules.Package
@@ -128,19 +128,19 @@ grow-behind true false q ps p = refl
 grow-behind false true q ps p = refl
 grow-behind false false q ps p = refl
 
-pub picked_more : (marks : List ℕ) (first : ℕ) (cs : List (List ℕ)) (c : List ℕ) → picked marks first (cs ++ (c ∷ [])) ≡ grow (eqb (bitAt marks (first + length cs)) 1) (picked marks first cs) (packageOf c)
+pub picked_more : (marks : List ℕ) (first : ℕ) (cs : List (List ℕ)) (c : List ℕ) → picked marks first (cs ++ (c ∷ [])) ≡ grow (eqb (bit_at marks (first + length cs)) 1) (picked marks first cs) (package_of c)
 unfolding picked
-picked_more marks first [] c = go (eqb (bitAt marks first) 1) ∙ ap (λ (n : ℕ). grow (eqb (bitAt marks n) 1) [] (packageOf c)) (sym (add-zero first))
+picked_more marks first [] c = go (eqb (bit_at marks first) 1) ∙ ap (λ (n : ℕ). grow (eqb (bit_at marks n) 1) [] (package_of c)) (sym (add-zero first))
   where
-    go : (b : Bool) → elim b [ true ↦ packageOf c ∷ [] | false ↦ [] ] ≡ grow b [] (packageOf c)
+    go : (b : Bool) → elim b [ true ↦ package_of c ∷ [] | false ↦ [] ] ≡ grow b [] (package_of c)
     go true = refl
     go false = refl
 picked_more marks first (d ∷ cs) c =
     let e : first + 1 + length cs ≡ first + suc (length cs) = omega arith in
-    let b = eqb (bitAt marks first) 1 in
-    ap (λ (x : List rules.Package). elim b [ true ↦ packageOf d ∷ x | false ↦ x ]) (picked_more marks (first + 1) cs c)
-    ∙ grow-behind (eqb (bitAt marks (first + 1 + length cs)) 1) b (packageOf d) (picked marks (first + 1) cs) (packageOf c)
-    ∙ ap (λ (n : ℕ). grow (eqb (bitAt marks n) 1) (elim b [ true ↦ packageOf d ∷ picked marks (first + 1) cs | false ↦ picked marks (first + 1) cs ]) (packageOf c)) e
+    let b = eqb (bit_at marks first) 1 in
+    ap (λ (x : List rules.Package). elim b [ true ↦ package_of d ∷ x | false ↦ x ]) (picked_more marks (first + 1) cs c)
+    ∙ grow-behind (eqb (bit_at marks (first + 1 + length cs)) 1) b (package_of d) (picked marks (first + 1) cs) (package_of c)
+    ∙ ap (λ (n : ℕ). grow (eqb (bit_at marks n) 1) (elim b [ true ↦ package_of d ∷ picked marks (first + 1) cs | false ↦ picked marks (first + 1) cs ]) (package_of c)) e
 
 -- ---- bits of ids
 
@@ -150,35 +150,35 @@ sees-none n = record { none = λ x e. refl }
 
 -- one id more
 module _ (seen ids : List ℕ) (s : Sees seen ids) (long : length seen ≡ 512) (id : ℕ) where
-  not-it : (x : ℕ) → bitAt (withBit seen (slotOf id)) (slotOf x) ≡ 0 → slotOf id ≡ slotOf x → ⊥
-  not-it x e q = omega (arith, e, ap (λ (k : ℕ). bitAt (withBit seen (slotOf id)) k) (sym q), bit-set seen (slotOf id) (omega arith))
+  not_it : (x : ℕ) → bit_at (with_bit seen (slot_of id)) (slot_of x) ≡ 0 → slot_of id ≡ slot_of x → ⊥
+  not_it x e q = omega (arith, e, ap (λ (k : ℕ). bit_at (with_bit seen (slot_of id)) k) (sym q), bit-set seen (slot_of id) (omega arith))
 
-  seen-still : (x : ℕ) → bitAt (withBit seen (slotOf id)) (slotOf x) ≡ 0 → count x ids ≡ 0
-  seen-still x e = s.none x (sym (bit_kept seen (slotOf id) (slotOf x) (not-it x e)) ∙ e)
+  seen_still : (x : ℕ) → bit_at (with_bit seen (slot_of id)) (slot_of x) ≡ 0 → count x ids ≡ 0
+  seen_still x e = s.none x (sym (bit_kept seen (slot_of id) (slot_of x) (not_it x e)) ∙ e)
 
-  pub sees-same : Sees (withBit seen (slotOf id)) ids
-  sees-same = record { none = seen-still }
+  pub sees_same : Sees (with_bit seen (slot_of id)) ids
+  sees_same = record { none = seen_still }
 
-  pub sees_more : Sees (withBit seen (slotOf id)) (ids ++ (id ∷ []))
-  sees_more = record { none = λ x e. omega (arith, count-append x ids (id ∷ []), seen-still x e, count-other x id (λ q. not-it x e (ap slotOf (sym q)))) }
+  pub sees_more : Sees (with_bit seen (slot_of id)) (ids ++ (id ∷ []))
+  sees_more = record { none = λ x e. omega (arith, count-append x ids (id ∷ []), seen_still x e, count-other x id (λ q. not_it x e (ap slot_of (sym q)))) }
 
 -- the bit of an id is set
-pub bit-put : (seen : List ℕ) (id : ℕ) {slot : ℕ} {seen' : List ℕ} → slot ≡ slotOf id → seen' ≡ withBitIf seen slot true → seen' ≡ withBit seen (slotOf id)
-unfolding withBitIf
-bit-put seen id e f = f ∙ ap (withBit seen) e
+pub bit_put : (seen : List ℕ) (id : ℕ) {slot : ℕ} {seen' : List ℕ} → slot ≡ slot_of id → seen' ≡ with_bit_if seen slot true → seen' ≡ with_bit seen (slot_of id)
+unfolding with_bit_if
+bit_put seen id e f = f ∙ ap (with_bit seen) e
 
-pub bit-long : (seen : List ℕ) (i : ℕ) → length (withBit seen i) ≡ length seen
-unfolding withBitIf
+pub bit-long : (seen : List ℕ) (i : ℕ) → length (with_bit seen i) ≡ length seen
+unfolding with_bit_if
 bit-long seen i = length-with seen i true
 
 -- the ids before i were seen, and now the one at i
-pub see-next : (seen ids : List ℕ) (i : ℕ) → Sees seen (take i ids) → length seen ≡ 512 → i < length ids → Sees (withBit seen (slotOf (get_or ids i 0))) (take (i + 1) ids)
-see-next seen ids i s long l = rw (add-one, take-suc ids i 0 l) (sees_more seen (take i ids) s long (get_or ids i 0))
+pub see_next : (seen ids : List ℕ) (i : ℕ) → Sees seen (take i ids) → length seen ≡ 512 → i < length ids → Sees (with_bit seen (slot_of (get_or ids i 0))) (take (i + 1) ids)
+see_next seen ids i s long l = rw (add-one, take-suc ids i 0 l) (sees_more seen (take i ids) s long (get_or ids i 0))
 
 -- an id whose bit is not set stands nowhere
-pub unseen : (seen ids : List ℕ) → Sees seen ids → (id : ℕ) → eqb (bitAt seen (slotOf id)) 1 ≡ false → Place ids id (length ids)
+pub unseen : (seen ids : List ℕ) → Sees seen ids → (id : ℕ) → eqb (bit_at seen (slot_of id)) 1 ≡ false → Place ids id (length ids)
 unseen seen ids s id e = record {
   inside = omega arith;
   hit = λ l. absurd (omega arith);
-  miss = λ z. s.none id (omega (arith, bit-small seen (slotOf id), eqb-false (bitAt seen (slotOf id)) 1 e));
+  miss = λ z. s.none id (omega (arith, bit-small seen (slot_of id), eqb-false (bit_at seen (slot_of id)) 1 e));
 }

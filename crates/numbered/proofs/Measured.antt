@@ -5,9 +5,9 @@ use mathlib.Core.List.{List, []}
 use Rattle.rules.specs.Claims.{TellsApart}
 use Rattle.numbered.specs.declared.Numbered.{Numbered}
 use Rattle.numbered.specs.Quota.{Report}
-use Rattle.numbered.specs.Told.{state_of, toldIds}
-use Rattle.numbered.proofs.Same.{tells-apart}
+use Rattle.numbered.specs.Told.{state_of, told_ids}
+use Rattle.numbered.proofs.Same.{tells_apart}
 
-pub measured-apart : TellsApart (λ (x : Numbered × List ℕ). toldIds x.0 x.1)
-measured-apart (a, ids) (b, ids') e =
-    ap (λ (x : Numbered × (List ℕ × List ℕ × List ℕ)). (x.0, x.1.0)) (tells-apart (a, (ids, [], [])) (b, (ids', [], [])) (ap (λ (x : Report × List ℕ × ℕ). (x.0, state_of x.1 [] x.2, [])) e))
+pub measured_apart : TellsApart (λ (x : Numbered × List ℕ). told_ids x.0 x.1)
+measured_apart (a, ids) (b, ids') e =
+    ap (λ (x : Numbered × (List ℕ × List ℕ × List ℕ)). (x.0, x.1.0)) (tells_apart (a, (ids, [], [])) (b, (ids', [], [])) (ap (λ (x : Report × List ℕ × ℕ). (x.0, state_of x.1 [] x.2, [])) e))

@@ -9,26 +9,26 @@ use lib.Dec.{eqb}
 use Rattle.rules.specs.Items.{All, all_nil, all_cons, count}
 use Rattle.rules.specs.Message.{Message}
 use Rattle.rules.specs.Valid.{Valid}
-use Rattle.rules.specs.Copy.{Entry, copyMessage}
-use Rattle.rules.proofs.Released.{ValidEntry, valid-copyMessage}
+use Rattle.rules.specs.Copy.{Entry, copy_message}
+use Rattle.rules.proofs.Released.{ValidEntry, valid_copy_message}
 use Rattle.rules.proofs.Growing.{join-append, map-append}
 use Rattle.numbered.proofs.Seeking.{count_same, count-other}
-use Rattle.numbered.specs.Numbering.{Running, nextNumber, countedOn, numbersAfter, numberedMessages, numberedBytes}
+use Rattle.numbered.specs.Numbering.{Running, next_number, counted_on, numbers_after, numbered_messages, numbered_bytes}
 
 -- ---- more entries
 
-pub after-append : (ns : List Running) (es fs : List Entry) → numbersAfter ns (es ++ fs) ≡ numbersAfter (numbersAfter ns es) fs
-unfolding numbersAfter
+pub after-append : (ns : List Running) (es fs : List Entry) → numbers_after ns (es ++ fs) ≡ numbers_after (numbers_after ns es) fs
+unfolding numbers_after
 after-append ns [] fs = refl
-after-append ns (e ∷ es) fs = after-append (countedOn e.id ns) es fs
+after-append ns (e ∷ es) fs = after-append (counted_on e.id ns) es fs
 
-pub numbered-append : (ns : List Running) (es fs : List Entry) → numberedMessages ns (es ++ fs) ≡ numberedMessages ns es ++ numberedMessages (numbersAfter ns es) fs
-unfolding numbersAfter numberedMessages
+pub numbered-append : (ns : List Running) (es fs : List Entry) → numbered_messages ns (es ++ fs) ≡ numbered_messages ns es ++ numbered_messages (numbers_after ns es) fs
+unfolding numbers_after numbered_messages
 numbered-append ns [] fs = refl
-numbered-append ns (e ∷ es) fs = ap (λ (l : List Message). copyMessage (nextNumber e.id ns) e ∷ l) (numbered-append (countedOn e.id ns) es fs)
+numbered-append ns (e ∷ es) fs = ap (λ (l : List Message). copy_message (next_number e.id ns) e ∷ l) (numbered-append (counted_on e.id ns) es fs)
 
-pub bytes-append : (ns : List Running) (es fs : List Entry) → numberedBytes ns (es ++ fs) ≡ numberedBytes ns es ++ numberedBytes (numbersAfter ns es) fs
-unfolding numberedBytes
+pub bytes-append : (ns : List Running) (es fs : List Entry) → numbered_bytes ns (es ++ fs) ≡ numbered_bytes ns es ++ numbered_bytes (numbers_after ns es) fs
+unfolding numbered_bytes
 bytes-append ns es fs = rw (numbered-append ns es fs, map-append, join-append)
 
 -- ---- numbers of 32 bits stay such
@@ -36,46 +36,46 @@ bytes-append ns es fs = rw (numbered-append ns es fs, map-append, join-append)
 abbrev pub Low : Running → Type 0
 Low n = n.next < 2 ^ 32
 
-pub low-counted : (x : ℕ) {ns : List Running} → All Low ns → All Low (countedOn x ns)
-unfolding countedOn
+pub low-counted : (x : ℕ) {ns : List Running} → All Low ns → All Low (counted_on x ns)
+unfolding counted_on
 low-counted x all_nil = all_cons {a = record { id = x; next = 1 }} (omega arith) all_nil
 low-counted x (all_cons {a = n} {l = ns} h a) = go (eqb x n.id) (low-counted x a)
   where
-    go : (b : Bool) → All Low (countedOn x ns) → All Low (elim b [ true ↦ record { id = n.id; next = (n.next + 1) % 2 ^ 32 } ∷ ns | false ↦ n ∷ countedOn x ns ])
+    go : (b : Bool) → All Low (counted_on x ns) → All Low (elim b [ true ↦ record { id = n.id; next = (n.next + 1) % 2 ^ 32 } ∷ ns | false ↦ n ∷ counted_on x ns ])
     go true r = all_cons {a = record { id = n.id; next = (n.next + 1) % 2 ^ 32 }} (omega arith) a
     go false r = all_cons h r
 
-pub low-after : {ns : List Running} (es : List Entry) → All Low ns → All Low (numbersAfter ns es)
-unfolding numbersAfter
+pub low-after : {ns : List Running} (es : List Entry) → All Low ns → All Low (numbers_after ns es)
+unfolding numbers_after
 low-after [] a = a
 low-after (e ∷ es) a = low-after es (low-counted e.id a)
 
-pub low-next : (x : ℕ) {ns : List Running} → All Low ns → nextNumber x ns < 2 ^ 32
-unfolding nextNumber
+pub low-next : (x : ℕ) {ns : List Running} → All Low ns → next_number x ns < 2 ^ 32
+unfolding next_number
 low-next x all_nil = omega arith
 low-next x (all_cons {a = n} {l = ns} h a) = go (eqb x n.id) (low-next x a)
   where
-    go : (b : Bool) → nextNumber x ns < 2 ^ 32 → elim b [ true ↦ n.next | false ↦ nextNumber x ns ] < 2 ^ 32
+    go : (b : Bool) → next_number x ns < 2 ^ 32 → elim b [ true ↦ n.next | false ↦ next_number x ns ] < 2 ^ 32
     go true r = h
     go false r = r
 
-pub valid-numbered : {ns : List Running} {es : List Entry} → All Low ns → All ValidEntry es → All Valid (numberedMessages ns es)
-unfolding numberedMessages
-valid-numbered a all_nil = all_nil
-valid-numbered {ns} a (all_cons {a = e} v r) = all_cons (valid-copyMessage (nextNumber e.id ns) e (low-next e.id a) v) (valid-numbered (low-counted e.id a) r)
+pub valid_numbered : {ns : List Running} {es : List Entry} → All Low ns → All ValidEntry es → All Valid (numbered_messages ns es)
+unfolding numbered_messages
+valid_numbered a all_nil = all_nil
+valid_numbered {ns} a (all_cons {a = e} v r) = all_cons (valid_copy_message (next_number e.id ns) e (low-next e.id a) v) (valid_numbered (low-counted e.id a) r)
 
 -- ---- the entries can be told from the messages
 
-entryIn : Message → Entry
-entryIn m = record { id = m.id; seconds = m.seconds; nanos = m.nanos; flags = m.flags - 64; packages = m.packages }
+entry_in : Message → Entry
+entry_in m = record { id = m.id; seconds = m.seconds; nanos = m.nanos; flags = m.flags - 64; packages = m.packages }
 
-entries-in : (ns : List Running) (es : List Entry) → map entryIn (numberedMessages ns es) ≡ es
-unfolding numberedMessages copyMessage entryIn
-entries-in ns [] = refl
-entries-in ns (e ∷ es) = let z : 64 + e.flags - 64 ≡ e.flags = omega arith in rw (z, entries-in (countedOn e.id ns) es)
+entries_in : (ns : List Running) (es : List Entry) → map entry_in (numbered_messages ns es) ≡ es
+unfolding numbered_messages copy_message entry_in
+entries_in ns [] = refl
+entries_in ns (e ∷ es) = let z : 64 + e.flags - 64 ≡ e.flags = omega arith in rw (z, entries_in (counted_on e.id ns) es)
 
-pub numbered-injective : (ns : List Running) (es es' : List Entry) → numberedMessages ns es ≡ numberedMessages ns es' → es ≡ es'
-numbered-injective ns es es' q = sym (entries-in ns es) ∙ ap (map entryIn) q ∙ entries-in ns es'
+pub numbered_injective : (ns : List Running) (es es' : List Entry) → numbered_messages ns es ≡ numbered_messages ns es' → es ≡ es'
+numbered_injective ns es es' q = sym (entries_in ns es) ∙ ap (map entry_in) q ∙ entries_in ns es'
 
 -- ---- the numbers are kept true
 
@@ -89,36 +89,36 @@ count-cons x y l = go (eqb x y)
 
 -- the first running number, and those behind it
 module _ (x : ℕ) (n : Running) (ns : List Running) where
-  pub next-hit : eqb x n.id ≡ true → nextNumber x (n ∷ ns) ≡ n.next
-  unfolding nextNumber
-  next-hit e = rw (e, nextNumber)
+  pub next-hit : eqb x n.id ≡ true → next_number x (n ∷ ns) ≡ n.next
+  unfolding next_number
+  next-hit e = rw (e, next_number)
 
-  pub next-miss : eqb x n.id ≡ false → nextNumber x (n ∷ ns) ≡ nextNumber x ns
-  unfolding nextNumber
-  next-miss e = rw (e, nextNumber)
+  pub next-miss : eqb x n.id ≡ false → next_number x (n ∷ ns) ≡ next_number x ns
+  unfolding next_number
+  next-miss e = rw (e, next_number)
 
-  pub counted-hit : eqb x n.id ≡ true → countedOn x (n ∷ ns) ≡ record { id = n.id; next = (n.next + 1) % 2 ^ 32 } ∷ ns
-  unfolding countedOn
-  counted-hit e = rw (e, countedOn)
+  pub counted-hit : eqb x n.id ≡ true → counted_on x (n ∷ ns) ≡ record { id = n.id; next = (n.next + 1) % 2 ^ 32 } ∷ ns
+  unfolding counted_on
+  counted-hit e = rw (e, counted_on)
 
-  pub counted-miss : eqb x n.id ≡ false → countedOn x (n ∷ ns) ≡ n ∷ countedOn x ns
-  unfolding countedOn
-  counted-miss e = rw (e, countedOn)
+  pub counted-miss : eqb x n.id ≡ false → counted_on x (n ∷ ns) ≡ n ∷ counted_on x ns
+  unfolding counted_on
+  counted-miss e = rw (e, counted_on)
 
-next-first : (x y : ℕ) → nextNumber x (countedOn y []) ≡ (nextNumber x [] + count x (y ∷ [])) % 2 ^ 32
-unfolding nextNumber countedOn count
+next-first : (x y : ℕ) → next_number x (counted_on y []) ≡ (next_number x [] + count x (y ∷ [])) % 2 ^ 32
+unfolding next_number counted_on count
 next-first x y = go (eqb x y)
   where
     go : (b : Bool) → elim b [ true ↦ 1 | false ↦ 0 ] ≡ (0 + elim b [ true ↦ 1 | false ↦ 0 ]) % 2 ^ 32
     go true = refl
     go false = refl
 
-pub next-counted : (x y : ℕ) {ns : List Running} → All Low ns → nextNumber x (countedOn y ns) ≡ (nextNumber x ns + count x (y ∷ [])) % 2 ^ 32
+pub next-counted : (x y : ℕ) {ns : List Running} → All Low ns → next_number x (counted_on y ns) ≡ (next_number x ns + count x (y ∷ [])) % 2 ^ 32
 next-counted x y all_nil = next-first x y
 next-counted x y (all_cons {a = n} {l = ns} h a) = go (eqb y n.id) refl (eqb x n.id) refl (next-counted x y a)
   where
-    go : (b : Bool) → eqb y n.id ≡ b → (c : Bool) → eqb x n.id ≡ c → nextNumber x (countedOn y ns) ≡ (nextNumber x ns + count x (y ∷ [])) % 2 ^ 32
-        → nextNumber x (countedOn y (n ∷ ns)) ≡ (nextNumber x (n ∷ ns) + count x (y ∷ [])) % 2 ^ 32
+    go : (b : Bool) → eqb y n.id ≡ b → (c : Bool) → eqb x n.id ≡ c → next_number x (counted_on y ns) ≡ (next_number x ns + count x (y ∷ [])) % 2 ^ 32
+        → next_number x (counted_on y (n ∷ ns)) ≡ (next_number x (n ∷ ns) + count x (y ∷ [])) % 2 ^ 32
     go true e true f r =
         let c = count_same x y (eqb-true x n.id f ∙ sym (eqb-true y n.id e)) in
         rw (counted-hit y n ns e, next-hit x (record { id = n.id; next = (n.next + 1) % 2 ^ 32 }) ns f, next-hit x n ns f, c)
@@ -128,17 +128,17 @@ next-counted x y (all_cons {a = n} {l = ns} h a) = go (eqb y n.id) refl (eqb x n
         rw (counted-hit y n ns e, next-miss x (record { id = n.id; next = (n.next + 1) % 2 ^ 32 }) ns f, next-miss x n ns f, c) (omega arith)
     go false e true f r =
         let c = count-other x y (λ z. eqb-false y n.id e (sym z ∙ eqb-true x n.id f)) in
-        rw (counted-miss y n ns e, next-hit x n (countedOn y ns) f, next-hit x n ns f, c) (omega arith)
-    go false e false f r = rw (counted-miss y n ns e, next-miss x n (countedOn y ns) f, next-miss x n ns f) r
+        rw (counted-miss y n ns e, next-hit x n (counted_on y ns) f, next-hit x n ns f, c) (omega arith)
+    go false e false f r = rw (counted-miss y n ns e, next-miss x n (counted_on y ns) f, next-miss x n ns f) r
 
 carried : (a b c : ℕ) → ((a + b) % 2 ^ 32 + c) % 2 ^ 32 ≡ (a + (b + c)) % 2 ^ 32
 carried a b c = omega arith
 
-pub next-after : (x : ℕ) {ns : List Running} (es : List Entry) → All Low ns → nextNumber x (numbersAfter ns es) ≡ (nextNumber x ns + count x (map (λ (e : Entry). e.id) es)) % 2 ^ 32
-unfolding numbersAfter count
+pub next-after : (x : ℕ) {ns : List Running} (es : List Entry) → All Low ns → next_number x (numbers_after ns es) ≡ (next_number x ns + count x (map (λ (e : Entry). e.id) es)) % 2 ^ 32
+unfolding numbers_after count
 next-after x {ns} [] a = let l = low-next x a in omega arith
 next-after x {ns} (e ∷ es) a =
     next-after x es (low-counted e.id a)
     ∙ ap (λ (k : ℕ). (k + count x (map (λ (e : Entry). e.id) es)) % 2 ^ 32) (next-counted x e.id a)
-    ∙ carried (nextNumber x ns) (count x (e.id ∷ [])) (count x (map (λ (e : Entry). e.id) es))
-    ∙ ap (λ (k : ℕ). (nextNumber x ns + k) % 2 ^ 32) (sym (count-cons x e.id (map (λ (e : Entry). e.id) es)))
+    ∙ carried (next_number x ns) (count x (e.id ∷ [])) (count x (map (λ (e : Entry). e.id) es))
+    ∙ ap (λ (k : ℕ). (next_number x ns + k) % 2 ^ 32) (sym (count-cons x e.id (map (λ (e : Entry). e.id) es)))

@@ -14,14 +14,14 @@ use borrow.Author.Tests.{ltb-true, ltb-false}
 use Rattle.rules.specs.Outcome.{good, bad, PACKAGE}
 use Rattle.rules.specs.Bytes.{Bytes, pad}
 use Rattle.rules.specs.Packages as rules
-use Rattle.rules.specs.Packages.{packageLength, packageFits, piece, cut, packageOf, piece_of, packageTime}
-use Rattle.rules.specs.Options.{countSaid, differs}
-use Rattle.rules.specs.Message.{isSimulated, recordBits, Message}
+use Rattle.rules.specs.Packages.{package_length, package_fits, piece, cut, package_of, piece_of, package_time}
+use Rattle.rules.specs.Options.{count_said, differs}
+use Rattle.rules.specs.Message.{is_simulated, record_bits, Message}
 use Rattle.rules.specs.Sheet as rows
-use Rattle.rules.specs.Copy.{granted, grantedPackages}
-use Rattle.rules.proofs.Outcomes.{good-inj, good≢bad, refused-at}
+use Rattle.rules.specs.Copy.{granted, granted_packages}
+use Rattle.rules.proofs.Outcomes.{good_inj, good≢bad, refused-at}
 use Rattle.rules.proofs.Growing.{join-append, map-append, granted-append}
-use Rattle.rules.proofs.Loops.{Doing, doing-start, doing-next, doing_end, doing-bad, sets-sets}
+use Rattle.rules.proofs.Loops.{Doing, doing_start, doing_next, doing_end, doing_bad, sets-sets}
 use Rattle.refusal.specs.declared.Refusal.{Refusal}
 use Rattle.message.specs.declared.Header.{Header}
 use Rattle.message.specs.declared.HeaderRead.TheVariants as header
@@ -30,55 +30,55 @@ use Rattle.message.specs.declared.PackageRead.{PackageRead}
 use Rattle.message.specs.declared.PackageRead.TheVariants as P
 use Rattle.message.specs.contracts.PackageRead.{the_type}
 use Rattle.message.proofs.Moved.{moved, read-moved}
-use Rattle.message.specs.Answers.{toldHeader, toldPackage, frontAt, payloadFrom, next_from}
-use Rattle.message.proofs.Fronts.{fronted, front-stopped, front-package, front-count, front-message}
-use Rattle.rules.specs.Walk.{packageAt}
-use Rattle.sheet.specs.Table.{rowsIn, nearOf, nearGrants}
-use Rattle.wire.specs.Bits.{bitAt, withBitIf}
+use Rattle.message.specs.Answers.{told_header, told_package, front_at, payload_from, next_from}
+use Rattle.message.proofs.Fronts.{fronted, front_stopped, front_package, front-count, front-message}
+use Rattle.rules.specs.Walk.{package_at}
+use Rattle.sheet.specs.Table.{rows_in, near_of, near_grants}
+use Rattle.wire.specs.Bits.{bit_at, with_bit_if}
 use Rattle.wire.proofs.Bits.{length-with}
 use Rattle.numbered.specs.declared.Size.{Size}
 use Rattle.numbered.specs.declared.Walked.{Walked}
 use Rattle.numbered.specs.declared.MessageTaken.{MessageTaken}
 use Rattle.numbered.specs.declared.MessageTaken.TheVariants as taking
-use Rattle.numbered.specs.Parts.{messageBy, kept, payloadOf, withPackage, flags_of, Tells, WalkedOver, finishedBy, finished, Took, pieceAs, Placed, Stored, picked, StoredRun}
-use Rattle.sheet.proofs.TableRows.{near-in}
+use Rattle.numbered.specs.Parts.{message_by, kept, payload_of, with_package, flags_of, Tells, WalkedOver, finished_by, finished, Took, piece_as, Placed, Stored, picked, StoredRun}
+use Rattle.sheet.proofs.TableRows.{near_in}
 use Rattle.numbered.proofs.Marks.{tells_more, flags-more, flags_long, grow, picked_more}
-use Rattle.numbered.proofs.Found.{Found, found, no_end, no-piece, id-is, delta-is, next-is, least, on, still, placed, piece_is, piece-length}
+use Rattle.numbered.proofs.Found.{Found, found, no_end, no_piece, id-is, delta-is, next-is, least, on, still, placed, piece_is, piece-length}
 
 module _ (rs : List rows.Row) (m : Message) where
-  granteds-snoc : (ps : List rules.Package) (p : rules.Package) → grantedPackages rs m (ps ++ (p ∷ [])) ≡ grow (granted rs m p) (grantedPackages rs m ps) p
-  unfolding grantedPackages
-  granteds-snoc ps p = granted-append rs m ps (p ∷ []) ∙ go (granted rs m p)
+  granteds_snoc : (ps : List rules.Package) (p : rules.Package) → granted_packages rs m (ps ++ (p ∷ [])) ≡ grow (granted rs m p) (granted_packages rs m ps) p
+  unfolding granted_packages
+  granteds_snoc ps p = granted-append rs m ps (p ∷ []) ∙ go (granted rs m p)
     where
-      go : (b : Bool) → grantedPackages rs m ps ++ elim b [ true ↦ p ∷ [] | false ↦ [] ] ≡ grow b (grantedPackages rs m ps) p
+      go : (b : Bool) → granted_packages rs m ps ++ elim b [ true ↦ p ∷ [] | false ↦ [] ] ≡ grow b (granted_packages rs m ps) p
       go true = refl
       go false = append-nil _
 
-  kept-snoc : (cs : List (List ℕ)) (c : List ℕ) → kept rs m (cs ++ (c ∷ [])) ≡ grow (granted rs m (packageOf c)) (kept rs m cs) (packageOf c)
+  kept_snoc : (cs : List (List ℕ)) (c : List ℕ) → kept rs m (cs ++ (c ∷ [])) ≡ grow (granted rs m (package_of c)) (kept rs m cs) (package_of c)
   unfolding kept
-  kept-snoc cs c = rw (map-append packageOf cs (c ∷ [])) (granteds-snoc (map packageOf cs) (packageOf c))
+  kept_snoc cs c = rw (map-append package_of cs (c ∷ [])) (granteds_snoc (map package_of cs) (package_of c))
 
 -- the bytes of packages, and of one more
-pub payload-more : (ps : List rules.Package) (p : rules.Package) → payloadOf (ps ++ (p ∷ [])) ≡ payloadOf ps ++ piece_of p
+pub payload-more : (ps : List rules.Package) (p : rules.Package) → payload_of (ps ++ (p ∷ [])) ≡ payload_of ps ++ piece_of p
 payload-more ps p = rw (map-append, join-append, append-nil)
 
 -- a record keeps flag bit 3
-simulated-bit : (flags : ℕ) → isSimulated (recordBits flags) ≡ isSimulated flags
-simulated-bit flags =
+simulated_bit : (flags : ℕ) → is_simulated (record_bits flags) ≡ is_simulated flags
+simulated_bit flags =
     let a : (flags / 64 % 2 * 64 + flags % 16) / 8 ≡ flags / 64 % 2 * 8 + flags % 16 / 8 = omega arith in
     let b : flags % 16 / 8 ≡ flags / 8 % 2 = omega arith in
     let c : (flags / 64 % 2 * 8 + flags / 8 % 2) % 2 ≡ flags / 8 % 2 = omega arith in
     rw (a, b, c)
 
 -- a package that was read at the start of what is left, as it stands in the run
-pub found-behind : (run : List ℕ) (k : ℕ) → length run ≤ 65536 → (p : Package) → toldPackage (P.Package p) ≡ packageAt (drop k run) 0 → Found run k (moved k p)
+pub found-behind : (run : List ℕ) (k : ℕ) → length run ≤ 65536 → (p : Package) → told_package (P.Package p) ≡ package_at (drop k run) 0 → Found run k (moved k p)
 found-behind run k l p e = found run k (moved k p) (read-moved run k l (P.Package p) e)
 
 -- whether a package that was found is granted by the near rows of its message
 module _ (table : List ℕ) (h : Header) (run : List ℕ) (k : ℕ) (p : Package) (f : Found run k p) where
-  pub near-asked : nearGrants p.id.0 (packageTime h.seconds h.nanos p.delta) (nearOf h.id.0 (isSimulated h.flags) table) ≡ granted (rowsIn table) (messageBy h) (packageOf f.c)
-  unfolding packageOf
-  near-asked = rw (← id-is run k p f, ← delta-is run k p f, ← simulated-bit h.flags) (near-in table (messageBy h) (packageOf f.c))
+  pub near_asked : near_grants p.id.0 (package_time h.seconds h.nanos p.delta) (near_of h.id.0 (is_simulated h.flags) table) ≡ granted (rows_in table) (message_by h) (package_of f.c)
+  unfolding package_of
+  near_asked = rw (← id-is run k p f, ← delta-is run k p f, ← simulated_bit h.flags) (near_in table (message_by h) (package_of f.c))
 
 -- ---- what both loops keep: the pieces before place k are done, and ps are the packages among them that are kept
 
@@ -92,34 +92,34 @@ pub record Keeping (keep : List (List ℕ) → List rules.Package) (run : List �
 piece-refused : (p : ℕ) (t : List ℕ) {n q : ℕ} → piece p t ≡ bad n q → piece p t ≡ bad PACKAGE p
 unfolding piece
 piece-refused p t e = ⊎_elim (λ w. e ∙ sym (ap₂ bad w.1 w.2)) (λ w. absurd (good≢bad (sym w.1)))
-    (refused-at (not (packageFits t)) PACKAGE p (good (take (pad (packageLength t)) t, pad (packageLength t))) e)
+    (refused-at (not (package_fits t)) PACKAGE p (good (take (pad (package_length t)) t, pad (package_length t))) e)
 
 module _ (keep : List (List ℕ) → List rules.Package) (run : List ℕ) where
   abbrev keep-start : keep [] ≡ [] → Keeping keep run [] 0
-  keep-start e = record { done = []; doing = doing-start piece run; inside = omega arith; are = e }
+  keep-start e = record { done = []; doing = doing_start piece run; inside = omega arith; are = e }
 
   module _ (ps : List rules.Package) (k : ℕ) (inv : Keeping keep run ps k) where
     keep_all : length run ≤ k → cut 0 run ≡ good inv.done
     keep_all l = doing_end piece run inv.done k inv.doing l
 
     keep-bad : k < length run → {w p : ℕ} → piece k (drop k run) ≡ bad w p → cut 0 run ≡ bad PACKAGE k
-    keep-bad l b = doing-bad piece run inv.done k inv.doing l (piece-refused k (drop k run) b)
+    keep-bad l b = doing_bad piece run inv.done k inv.doing l (piece-refused k (drop k run) b)
 
-    abbrev keep-next : k < length run → (p : Package) (f : Found run k p) (b : Bool) → keep (inv.done ++ (f.c ∷ [])) ≡ grow b (keep inv.done) (packageOf f.c)
-        → Keeping keep run (grow b ps (packageOf f.c)) p.next
+    abbrev keep-next : k < length run → (p : Package) (f : Found run k p) (b : Bool) → keep (inv.done ++ (f.c ∷ [])) ≡ grow b (keep inv.done) (package_of f.c)
+        → Keeping keep run (grow b ps (package_of f.c)) p.next
     keep-next l p f b g = record {
       done = inv.done ++ (f.c ∷ []);
-      doing = rw (← next-is run k p f) (doing-next piece run inv.done k f.c f.n inv.doing l (omega (arith, least run k p f)) f.read);
+      doing = rw (← next-is run k p f) (doing_next piece run inv.done k f.c f.n inv.doing l (omega (arith, least run k p f)) f.read);
       inside = still run k p f;
-      are = g ∙ ap (λ (l : List rules.Package). grow b l (packageOf f.c)) inv.are;
+      are = g ∙ ap (λ (l : List rules.Package). grow b l (package_of f.c)) inv.are;
     }
 
 -- what was read is no package: it has not the first variant
 abbrev pub NoPackage : PackageRead → Type 0
 NoPackage x = (tag_of the_type x ≡ 1) ⊎ (tag_of the_type x ≡ 2)
 
-pub no-package : (p : Package) → NoPackage (P.Package p) → ⊥
-no-package p o = ⊎_elim (λ a. let z : ◌≡◌ {A = ℕ} 0 1 = a in omega (arith, z)) (λ a. let z : ◌≡◌ {A = ℕ} 0 2 = a in omega (arith, z)) o
+pub no_package : (p : Package) → NoPackage (P.Package p) → ⊥
+no_package p o = ⊎_elim (λ a. let z : ◌≡◌ {A = ℕ} 0 1 = a in omega (arith, z)) (λ a. let z : ◌≡◌ {A = ℕ} 0 2 = a in omega (arith, z)) o
 
 -- ---- measuring
 
@@ -129,7 +129,7 @@ module _ (rs : List rows.Row) (m : Message) (run marks₀ : List ℕ) (first : �
     pub keeping : Keeping (kept rs m) run ps k
     pub small : s.bytes ≤ k
     pub few : s.packages ≤ k
-    pub bytes : s.bytes ≡ length (payloadOf ps)
+    pub bytes : s.bytes ≡ length (payload_of ps)
     pub packages : s.packages ≡ length ps
     pub many : all ≡ length keeping.done
     pub least : 12 * all ≤ k
@@ -137,7 +137,7 @@ module _ (rs : List rows.Row) (m : Message) (run marks₀ : List ℕ) (first : �
     pub marked : (fs : List Bool) → length fs ≡ first → Tells marks₀ fs → Tells marks (fs ++ flags_of rs m keeping.done)
 
   pub walk_start : length marks₀ ≡ 683 → Walking (record { bytes = 0; packages = 0 }) 0 marks₀ 0
-  unfolding kept grantedPackages flags_of
+  unfolding kept granted_packages flags_of
   walk_start l = record {
     ps = [];
     keeping = keep-start (kept rs m) run refl;
@@ -162,25 +162,25 @@ module _ (rs : List rows.Row) (m : Message) (run marks₀ : List ℕ) (first : �
       many = inv.many;
       whole = w;
       broken = b;
-      bytes = inv.bytes ∙ ap (λ (l : List rules.Package). length (payloadOf l)) (sym inv.keeping.are);
+      bytes = inv.bytes ∙ ap (λ (l : List rules.Package). length (payload_of l)) (sym inv.keeping.are);
       packages = inv.packages ∙ ap length (sym inv.keeping.are);
       marked = inv.marked;
     }
 
-    pub walk-ended : length run ≤ k → WalkedOver rs m run marks₀ marks first (record { size = s; all = all; end = k })
-    walk-ended l = walked (keep_all (kept rs m) run inv.ps k inv.keeping) (λ b. absurd (omega arith))
+    pub walk_ended : length run ≤ k → WalkedOver rs m run marks₀ marks first (record { size = s; all = all; end = k })
+    walk_ended l = walked (keep_all (kept rs m) run inv.ps k inv.keeping) (λ b. absurd (omega arith))
 
     module _ (short : length run ≤ 65536) (l : k < length run) where
-      pub walk-stopped : (x : PackageRead) → NoPackage x → toldPackage x ≡ packageAt (drop k run) 0 → WalkedOver rs m run marks₀ marks first (record { size = s; all = all; end = k })
-      walk-stopped (P.Package p) o e = absurd (no-package p o)
-      walk-stopped P.End o e = absurd (no_end run k short l (read-moved run k short P.End e))
-      walk-stopped (P.Refused f) o e = walked (λ w. absurd (omega arith)) (λ b. keep-bad (kept rs m) run inv.ps k inv.keeping l (no-piece run k short l (record { why = f.why; place = k + f.place }) (read-moved run k short (P.Refused f) e)))
+      pub walk_stopped : (x : PackageRead) → NoPackage x → told_package x ≡ package_at (drop k run) 0 → WalkedOver rs m run marks₀ marks first (record { size = s; all = all; end = k })
+      walk_stopped (P.Package p) o e = absurd (no_package p o)
+      walk_stopped P.End o e = absurd (no_end run k short l (read-moved run k short P.End e))
+      walk_stopped (P.Refused f) o e = walked (λ w. absurd (omega arith)) (λ b. keep-bad (kept rs m) run inv.ps k inv.keeping l (no_piece run k short l (record { why = f.why; place = k + f.place }) (read-moved run k short (P.Refused f) e)))
 
       module _ (room : 12 * first + length run ≤ 65536) (p : Package) (f : Found run k (moved k p)) where
         abbrev done : List (List ℕ)
         done = inv.keeping.done
 
-        marked_more : (b : Bool) → b ≡ granted rs m (packageOf f.c) → (fs : List Bool) → length fs ≡ first → Tells marks₀ fs → Tells (withBitIf marks (first + all) b) (fs ++ flags_of rs m (done ++ (f.c ∷ [])))
+        marked_more : (b : Bool) → b ≡ granted rs m (package_of f.c) → (fs : List Bool) → length fs ≡ first → Tells marks₀ fs → Tells (with_bit_if marks (first + all) b) (fs ++ flags_of rs m (done ++ (f.c ∷ [])))
         marked_more b g fs e t =
             let n : length (fs ++ flags_of rs m done) ≡ first + all = omega (arith, length-append fs (flags_of rs m done), flags_long rs m done, inv.many) in
             let z = tells_more marks (fs ++ flags_of rs m done) (inv.marked fs e t) (omega (arith, n, inv.least, inv.long)) b in
@@ -190,23 +190,23 @@ module _ (rs : List rows.Row) (m : Message) (run marks₀ : List ℕ) (first : �
             ∙ ap (λ (l : List Bool). fs ++ l) (sym (flags-more rs m done f.c)) in
             rw (← n, ← a) z
 
-        abbrev keeps : (b : Bool) → b ≡ granted rs m (packageOf f.c) → Keeping (kept rs m) run (grow b inv.ps (packageOf f.c)) (k + p.next)
-        keeps b g = keep-next (kept rs m) run inv.ps k inv.keeping l (moved k p) f b (kept-snoc rs m done f.c ∙ ap (λ (x : Bool). grow x (kept rs m done) (packageOf f.c)) (sym g))
+        abbrev keeps : (b : Bool) → b ≡ granted rs m (package_of f.c) → Keeping (kept rs m) run (grow b inv.ps (package_of f.c)) (k + p.next)
+        keeps b g = keep-next (kept rs m) run inv.ps k inv.keeping l (moved k p) f b (kept_snoc rs m done f.c ∙ ap (λ (x : Bool). grow x (kept rs m done) (package_of f.c)) (sym g))
 
-        pub walk-next : (b : Bool) → b ≡ granted rs m (packageOf f.c) → Walking (withPackage s p.next b) (all + 1) (withBitIf marks (first + all) b) (k + p.next)
-        walk-next true g = record {
-          ps = inv.ps ++ (packageOf f.c ∷ []);
+        pub walk_next : (b : Bool) → b ≡ granted rs m (package_of f.c) → Walking (with_package s p.next b) (all + 1) (with_bit_if marks (first + all) b) (k + p.next)
+        walk_next true g = record {
+          ps = inv.ps ++ (package_of f.c ∷ []);
           keeping = keeps true g;
           small = omega (arith, inv.small, on run k (moved k p) f);
           few = omega (arith, inv.few, on run k (moved k p) f);
-          bytes = rw payload-more (omega (arith, inv.bytes, next-is run k (moved k p) f, piece-length run k (moved k p) f, length-append (payloadOf inv.ps) (piece_of (packageOf f.c))));
-          packages = omega (arith, inv.packages, length-append inv.ps (packageOf f.c ∷ []));
+          bytes = rw payload-more (omega (arith, inv.bytes, next-is run k (moved k p) f, piece-length run k (moved k p) f, length-append (payload_of inv.ps) (piece_of (package_of f.c))));
+          packages = omega (arith, inv.packages, length-append inv.ps (package_of f.c ∷ []));
           many = omega (arith, inv.many, length-append done (f.c ∷ []));
           least = omega (arith, inv.least, next-is run k (moved k p) f, least run k (moved k p) f);
           long = length-with marks (first + all) true ∙ inv.long;
           marked = marked_more true g;
         }
-        walk-next false g = record {
+        walk_next false g = record {
           ps = inv.ps;
           keeping = keeps false g;
           small = omega (arith, inv.small, on run k (moved k p) f);
@@ -222,24 +222,24 @@ module _ (rs : List rows.Row) (m : Message) (run marks₀ : List ℕ) (first : �
 -- ---- a message whose packages were walked over
 
 module _ (rs : List rows.Row) (input : List ℕ) (k : ℕ) (marks marks' : List ℕ) (first : ℕ) where
-  pub took-refused : (f : Refusal) → toldHeader (header.Refused f) ≡ frontAt input k → Took rs input k marks marks' first (taking.Refused f)
-  took-refused f e = record { told = front-stopped input k e; measured = tt }
+  pub took_refused : (f : Refusal) → told_header (header.Refused f) ≡ front_at input k → Took rs input k marks marks' first (taking.Refused f)
+  took_refused f e = record { told = front_stopped input k e; measured = tt }
 
-  module _ (h : Header) (e : toldHeader (header.Header h) ≡ frontAt input k) (w : Walked) (o : WalkedOver rs (messageBy h) (take (next_from k h - payloadFrom k h) (drop (payloadFrom k h) input)) marks marks' first w) where
-    run_long : length (take (next_from k h - payloadFrom k h) (drop (payloadFrom k h) input)) ≡ next_from k h - payloadFrom k h
+  module _ (h : Header) (e : told_header (header.Header h) ≡ front_at input k) (w : Walked) (o : WalkedOver rs (message_by h) (take (next_from k h - payload_from k h) (drop (payload_from k h) input)) marks marks' first w) where
+    run_long : length (take (next_from k h - payload_from k h) (drop (payload_from k h) input)) ≡ next_from k h - payload_from k h
     run_long = (fronted input k h e).long
 
     abbrev said : ℕ → Bool
-    said n = differs (countSaid (take (k + 24 + h.run - (k + 24)) (drop (k + 24) input))) n
+    said n = differs (count_said (take (k + 24 + h.run - (k + 24)) (drop (k + 24) input))) n
 
-    by_end : (b : Bool) → ltb w.end (next_from k h - payloadFrom k h) ≡ b → (d : Bool) → said w.all ≡ d → Took rs input k marks marks' first (finishedBy b d k h w)
-    by_end true l d q = record { told = front-package input k h e w.end (o.broken (omega (arith, run_long, ltb-true w.end (next_from k h - payloadFrom k h) l))); measured = tt }
+    by_end : (b : Bool) → ltb w.end (next_from k h - payload_from k h) ≡ b → (d : Bool) → said w.all ≡ d → Took rs input k marks marks' first (finished_by b d k h w)
+    by_end true l d q = record { told = front_package input k h e w.end (o.broken (omega (arith, run_long, ltb-true w.end (next_from k h - payload_from k h) l))); measured = tt }
     by_end false l true q =
-        let c = o.whole (omega (arith, run_long, ltb-false w.end (next_from k h - payloadFrom k h) l)) in
+        let c = o.whole (omega (arith, run_long, ltb-false w.end (next_from k h - payload_from k h) l)) in
         record { told = front-count input k h e o.pieces c (ap said (sym o.many) ∙ q); measured = tt }
     by_end false l false q =
-        let c = o.whole (omega (arith, run_long, ltb-false w.end (next_from k h - payloadFrom k h) l)) in
-        let same : (cs : List (List ℕ)) → cut 0 (take (next_from k h - payloadFrom k h) (drop (payloadFrom k h) input)) ≡ good cs → o.pieces ≡ cs = λ cs x. good-inj (sym c ∙ x) in
+        let c = o.whole (omega (arith, run_long, ltb-false w.end (next_from k h - payload_from k h) l)) in
+        let same : (cs : List (List ℕ)) → cut 0 (take (next_from k h - payload_from k h) (drop (payload_from k h) input)) ≡ good cs → o.pieces ≡ cs = λ cs x. good_inj (sym c ∙ x) in
         record {
           told = rw o.many (front-message input k h e o.pieces c (ap said (sym o.many) ∙ q));
           measured = record {
@@ -253,8 +253,8 @@ module _ (rs : List rows.Row) (input : List ℕ) (k : ℕ) (marks marks' : List 
           };
         }
 
-    pub took-walked : (r : MessageTaken) → r ≡ finished input k h w → Took rs input k marks marks' first r
-    took-walked r q = subst (Took rs input k marks marks' first) (sym q) (by_end (ltb w.end (next_from k h - payloadFrom k h)) refl (said w.all) refl)
+    pub took_walked : (r : MessageTaken) → r ≡ finished input k h w → Took rs input k marks marks' first r
+    took_walked r q = subst (Took rs input k marks marks' first) (sym q) (by_end (ltb w.end (next_from k h - payload_from k h)) refl (said w.all) refl)
 
 -- ---- writing
 
@@ -266,12 +266,12 @@ module _ (marks : List ℕ) (first : ℕ) (run before : List ℕ) (to : ℕ) whe
     pub most : end ≤ to + k
     pub many : all ≡ length keeping.done
     pub few : all ≤ k
-    pub ends : end ≡ to + length (payloadOf ps)
-    pub stored : after ≡ sets before to (payloadOf ps)
+    pub ends : end ≡ to + length (payload_of ps)
+    pub stored : after ≡ sets before to (payload_of ps)
 
-  pub store-start : Storing before to 0 0
+  pub store_start : Storing before to 0 0
   unfolding picked
-  store-start = record {
+  store_start = record {
     ps = [];
     keeping = keep-start (picked marks first) run refl;
     least = omega arith;
@@ -283,56 +283,56 @@ module _ (marks : List ℕ) (first : ℕ) (run before : List ℕ) (to : ℕ) whe
   }
 
   module _ (after : List ℕ) (end all k : ℕ) (inv : Storing after end all k) where
-    pub store-ended : length run ≤ k → StoredRun (picked marks first) run before after to (record { bytes = end - to; all = all })
-    store-ended l = record {
+    pub store_ended : length run ≤ k → StoredRun (picked marks first) run before after to (record { bytes = end - to; all = all })
+    store_ended l = record {
       small = omega (arith, inv.most, inv.keeping.inside);
       few = omega (arith, inv.few, inv.keeping.inside);
       right = λ cs e.
-          let q : cs ≡ inv.keeping.done = good-inj (sym e ∙ keep_all (picked marks first) run inv.ps k inv.keeping l) in
+          let q : cs ≡ inv.keeping.done = good_inj (sym e ∙ keep_all (picked marks first) run inv.ps k inv.keeping l) in
           let a : picked marks first cs ≡ inv.ps = ap (picked marks first) q ∙ inv.keeping.are in
           rw (a, q) (omega (arith, inv.ends), inv.stored, inv.many);
     }
 
     module _ (short : length run ≤ 65536) (l : k < length run) where
-      pub store-stopped : (x : PackageRead) → NoPackage x → toldPackage x ≡ packageAt (drop k run) 0 → StoredRun (picked marks first) run before after to (record { bytes = end - to; all = all })
-      store-stopped (P.Package p) o e = absurd (no-package p o)
-      store-stopped P.End o e = absurd (no_end run k short l (read-moved run k short P.End e))
-      store-stopped (P.Refused f) o e = record {
+      pub store_stopped : (x : PackageRead) → NoPackage x → told_package x ≡ package_at (drop k run) 0 → StoredRun (picked marks first) run before after to (record { bytes = end - to; all = all })
+      store_stopped (P.Package p) o e = absurd (no_package p o)
+      store_stopped P.End o e = absurd (no_end run k short l (read-moved run k short P.End e))
+      store_stopped (P.Refused f) o e = record {
         small = omega (arith, inv.most, inv.keeping.inside);
         few = omega (arith, inv.few, inv.keeping.inside);
-        right = λ cs g. absurd (good≢bad (sym (keep-bad (picked marks first) run inv.ps k inv.keeping l (no-piece run k short l (record { why = f.why; place = k + f.place }) (read-moved run k short (P.Refused f) e))) ∙ g));
+        right = λ cs g. absurd (good≢bad (sym (keep-bad (picked marks first) run inv.ps k inv.keeping l (no_piece run k short l (record { why = f.why; place = k + f.place }) (read-moved run k short (P.Refused f) e))) ∙ g));
       }
 
-      module _ (p : Package) (e : toldPackage (P.Package p) ≡ packageAt (drop k run) 0) where
+      module _ (p : Package) (e : told_package (P.Package p) ≡ package_at (drop k run) 0) where
         abbrev p' : Package
         p' = moved k p
 
         abbrev f' : Found run k p'
         f' = found-behind run k short p e
 
-        pub store-placed : Placed (drop k run) p
-        store-placed = placed run k p f' short
+        pub store_placed : Placed (drop k run) p
+        store_placed = placed run k p f' short
 
-        abbrev keeps' : (b : Bool) → b ≡ eqb (bitAt marks (first + all)) 1 → Keeping (picked marks first) run (grow b inv.ps (packageOf f'.c)) (k + p.next)
+        abbrev keeps' : (b : Bool) → b ≡ eqb (bit_at marks (first + all)) 1 → Keeping (picked marks first) run (grow b inv.ps (package_of f'.c)) (k + p.next)
         keeps' b g =
             keep-next (picked marks first) run inv.ps k inv.keeping l p' f' b
             (picked_more marks first inv.keeping.done f'.c
-            ∙ ap (λ (n : ℕ). grow (eqb (bitAt marks (first + n)) 1) (picked marks first inv.keeping.done) (packageOf f'.c)) (sym inv.many)
-            ∙ ap (λ (x : Bool). grow x (picked marks first inv.keeping.done) (packageOf f'.c)) (sym g))
+            ∙ ap (λ (n : ℕ). grow (eqb (bit_at marks (first + n)) 1) (picked marks first inv.keeping.done) (package_of f'.c)) (sym inv.many)
+            ∙ ap (λ (x : Bool). grow x (picked marks first inv.keeping.done) (package_of f'.c)) (sym g))
 
-        pub store-next : Bytes run → (b : Bool) → b ≡ eqb (bitAt marks (first + all)) 1 → (out : List ℕ) (r : ℕ)
-            → Stored after out end r b (pieceAs (drop k run) p) p.next → Storing out r (all + 1) (k + p.next)
-        store-next y true g out r w = record {
-          ps = inv.ps ++ (packageOf f'.c ∷ []);
+        pub store_next : Bytes run → (b : Bool) → b ≡ eqb (bit_at marks (first + all)) 1 → (out : List ℕ) (r : ℕ)
+            → Stored after out end r b (piece_as (drop k run) p) p.next → Storing out r (all + 1) (k + p.next)
+        store_next y true g out r w = record {
+          ps = inv.ps ++ (package_of f'.c ∷ []);
           keeping = keeps' true g;
           least = omega (arith, inv.least, w.behind);
           most = omega (arith, inv.most, w.behind, on run k p' f');
           many = omega (arith, inv.many, length-append inv.keeping.done (f'.c ∷ []));
           few = omega (arith, inv.few, on run k p' f');
-          ends = rw payload-more (omega (arith, inv.ends, w.behind, next-is run k p' f', piece-length run k p' f', length-append (payloadOf inv.ps) (piece_of (packageOf f'.c))));
-          stored = rw (payload-more, w.bytes, piece_is run k p f' y, inv.stored, inv.ends) (sets-sets (payloadOf inv.ps) (piece_of (packageOf f'.c)) before to);
+          ends = rw payload-more (omega (arith, inv.ends, w.behind, next-is run k p' f', piece-length run k p' f', length-append (payload_of inv.ps) (piece_of (package_of f'.c))));
+          stored = rw (payload-more, w.bytes, piece_is run k p f' y, inv.stored, inv.ends) (sets-sets (payload_of inv.ps) (piece_of (package_of f'.c)) before to);
         }
-        store-next y false g out r w = record {
+        store_next y false g out r w = record {
           ps = inv.ps;
           keeping = keeps' false g;
           least = omega (arith, inv.least, w.behind);

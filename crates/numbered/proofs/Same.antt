@@ -3,7 +3,7 @@ use Prim.Native.Nat.{ℕ}
 use mathlib.Core.Path.{◌≡◌, sym, ap, ap₂, ◌∙◌}
 use mathlib.Core.List.{List}
 use Rattle.rules.specs.Claims.{TellsApart}
-use Rattle.refusal.proofs.Numbers.{number-positive, same-refusal}
+use Rattle.refusal.proofs.Numbers.{number_positive, same_refusal}
 use Rattle.numbered.specs.declared.Progress.{Progress}
 use Rattle.numbered.specs.declared.Answer.{Answer}
 use Rattle.numbered.specs.declared.Answer.TheVariants as Answer
@@ -12,23 +12,23 @@ use Rattle.numbered.specs.Numbering.{State}
 use Rattle.numbered.specs.Quota.{Report}
 use Rattle.numbered.specs.Told.{report, told}
 
-progressIn : Report → Progress
-progressIn r = record { handled = r.handled; consumed = r.consumed; bytes = r.bytes; messages = r.messages; packages = r.packages }
+progress_in : Report → Progress
+progress_in r = record { handled = r.handled; consumed = r.consumed; bytes = r.bytes; messages = r.messages; packages = r.packages }
 
-pub same-report : TellsApart report
-unfolding progressIn
-same-report (Answer.Done x) (Answer.Done y) e = ap (λ (r : Report). Answer.Done (progressIn r)) e
-same-report (Answer.Done x) (Answer.Refused f) e = absurd (number-positive f.why (sym (ap (λ (r : Report). r.number) e)))
-same-report (Answer.Refused f) (Answer.Done x) e = absurd (number-positive f.why (ap (λ (r : Report). r.number) e))
-same-report (Answer.Refused f) (Answer.Refused g) e = ap Answer.Refused (same-refusal f g (ap (λ (r : Report). r.number) e) (ap (λ (r : Report). r.place) e))
+pub same_report : TellsApart report
+unfolding progress_in
+same_report (Answer.Done x) (Answer.Done y) e = ap (λ (r : Report). Answer.Done (progress_in r)) e
+same_report (Answer.Done x) (Answer.Refused f) e = absurd (number_positive f.why (sym (ap (λ (r : Report). r.number) e)))
+same_report (Answer.Refused f) (Answer.Done x) e = absurd (number_positive f.why (ap (λ (r : Report). r.number) e))
+same_report (Answer.Refused f) (Answer.Refused g) e = ap Answer.Refused (same_refusal f g (ap (λ (r : Report). r.number) e) (ap (λ (r : Report). r.place) e))
 
 -- what is left of ids and numbers, with the buffer
 abbrev Left : Type 0
 Left = List ℕ × List ℕ × List ℕ
 
-pub tells-apart : TellsApart (λ (x : Numbered × Left). told x.0 x.1.0 x.1.1 x.1.2)
-tells-apart (a, l) (b, m) e =
-    let answers : a.answer ≡ b.answer = same-report a.answer b.answer (ap (λ (x : Report × State × List ℕ). x.0) e) in
+pub tells_apart : TellsApart (λ (x : Numbered × Left). told x.0 x.1.0 x.1.1 x.1.2)
+tells_apart (a, l) (b, m) e =
+    let answers : a.answer ≡ b.answer = same_report a.answer b.answer (ap (λ (x : Report × State × List ℕ). x.0) e) in
     let held : a.held ≡ b.held = ap (λ (x : Report × State × List ℕ). x.1.held) e in
     let same : a ≡ b = ap (λ (x : Answer). record { answer = x; held = a.held }) answers ∙ ap (λ (x : ℕ). record { answer = b.answer; held = x }) held in
     ap₂ (λ (x : Numbered) (y : Left). (x, y)) same (ap (λ (x : Report × State × List ℕ). (x.1.ids, x.1.next, x.2)) e)

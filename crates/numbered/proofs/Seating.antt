@@ -17,25 +17,25 @@ use Rattle.rules.specs.Copy.{Entry, released}
 use Rattle.rules.proofs.Outcomes.{pass, halt}
 use Rattle.rules.proofs.Growing.{map-append, released-append}
 use Rattle.numbered.specs.declared.Seats.{Seats}
-use Rattle.numbered.specs.Numbering.{Running, countedOn, numbersAfter, id_of}
-use Rattle.numbered.specs.Quota.{Taken, messageOf, idsFit}
+use Rattle.numbered.specs.Numbering.{Running, counted_on, numbers_after, id_of}
+use Rattle.numbered.specs.Quota.{Taken, message_of, ids_fit}
 use Rattle.numbered.specs.Parts.{Place, Single, named, Sat, Seated}
 use Rattle.numbered.proofs.Numbers.{after-append}
 use Rattle.numbered.proofs.Seeking.{count-append, count-some}
-use Rattle.numbered.proofs.Held.{counted-new, counted-ids, once-counted}
+use Rattle.numbered.proofs.Held.{counted_new, counted-ids, once-counted}
 
 -- ---- one id
 
 module _ (known fresh : List ℕ) (seats : Seats) (room id k : ℕ) where
   -- it has no package, or there is room for all, or the ids are too many already
-  pub seated-none : (packages : ℕ) → packages ≡ 0 → Seated known fresh fresh seats seats room id packages k
-  seated-none packages e = record { long = refl; idle = λ l. refl; none = λ z. (refl, refl); full = λ l. (refl, refl); one = λ c h. absurd (h e) }
+  pub seated_none : (packages : ℕ) → packages ≡ 0 → Seated known fresh fresh seats seats room id packages k
+  seated_none packages e = record { long = refl; idle = λ l. refl; none = λ z. (refl, refl); full = λ l. (refl, refl); one = λ c h. absurd (h e) }
 
-  pub seated-idle : (packages : ℕ) → 64 < room → Seated known fresh fresh seats seats room id packages k
-  seated-idle packages l = record { long = refl; idle = λ l. refl; none = λ z. (refl, refl); full = λ l. (refl, refl); one = λ c. absurd (omega arith) }
+  pub seated_idle : (packages : ℕ) → 64 < room → Seated known fresh fresh seats seats room id packages k
+  seated_idle packages l = record { long = refl; idle = λ l. refl; none = λ z. (refl, refl); full = λ l. (refl, refl); one = λ c. absurd (omega arith) }
 
-  pub seated-full : (packages : ℕ) → room < seats.many → Seated known fresh fresh seats seats room id packages k
-  seated-full packages l = record { long = refl; idle = λ l. refl; none = λ z. (refl, refl); full = λ l. (refl, refl); one = λ c h f. absurd (omega arith) }
+  pub seated_full : (packages : ℕ) → room < seats.many → Seated known fresh fresh seats seats room id packages k
+  seated_full packages l = record { long = refl; idle = λ l. refl; none = λ z. (refl, refl); full = λ l. (refl, refl); one = λ c h f. absurd (omega arith) }
 
   module _ (few : seats.many ≤ length fresh) where
     fresh-long : length (take seats.many fresh) ≡ seats.many
@@ -45,20 +45,20 @@ module _ (known fresh : List ℕ) (seats : Seats) (room id k : ℕ) where
     held-long = omega (arith, length-append known (take seats.many fresh), fresh-long)
 
     -- it is one of those held
-    sat-old : (ns : List Running) → map id_of ns ≡ known ++ take seats.many fresh → 1 ≤ count id (known ++ take seats.many fresh) → seats.many ≤ room → Sat known fresh fresh seats seats room id k ns
-    sat-old ns e some l = ⊎_elim
-        (λ s. record { many = sym (sym (length-map (countedOn id ns) id_of) ∙ ap length (s ∙ e) ∙ held-long); ids = λ f. s ∙ e; over = λ o. absurd (omega arith) })
+    sat_old : (ns : List Running) → map id_of ns ≡ known ++ take seats.many fresh → 1 ≤ count id (known ++ take seats.many fresh) → seats.many ≤ room → Sat known fresh fresh seats seats room id k ns
+    sat_old ns e some l = ⊎_elim
+        (λ s. record { many = sym (sym (length-map (counted_on id ns) id_of) ∙ ap length (s ∙ e) ∙ held-long); ids = λ f. s ∙ e; over = λ o. absurd (omega arith) })
         (λ s. absurd (omega (arith, s.0, ap (count id) e)))
         (counted-ids id ns)
 
     old : (packages : ℕ) → 1 ≤ count id (known ++ take seats.many fresh) → Seated known fresh fresh seats seats room id packages k
-    old packages some = record { long = refl; idle = λ l. refl; none = λ z. (refl, refl); full = λ l. (refl, refl); one = λ c h l ns e. sat-old ns e some l }
+    old packages some = record { long = refl; idle = λ l. refl; none = λ z. (refl, refl); full = λ l. (refl, refl); one = λ c h l ns e. sat_old ns e some l }
 
-    pub seated-known : (packages place : ℕ) → Place known id place → place < length known → Seated known fresh fresh seats seats room id packages k
-    seated-known packages place spot l = old packages (omega (arith, count-append id known (take seats.many fresh), count-some id known place l (spot.hit l)))
+    pub seated_known : (packages place : ℕ) → Place known id place → place < length known → Seated known fresh fresh seats seats room id packages k
+    seated_known packages place spot l = old packages (omega (arith, count-append id known (take seats.many fresh), count-some id known place l (spot.hit l)))
 
-    pub seated-fresh : (packages place : ℕ) → Place (take seats.many fresh) id place → place < seats.many → Seated known fresh fresh seats seats room id packages k
-    seated-fresh packages place spot l =
+    pub seated_fresh : (packages place : ℕ) → Place (take seats.many fresh) id place → place < seats.many → Seated known fresh fresh seats seats room id packages k
+    seated_fresh packages place spot l =
         let m : place < length (take seats.many fresh) = omega (arith, fresh-long) in
         old packages (omega (arith, count-append id known (take seats.many fresh), count-some id (take seats.many fresh) place m (spot.hit m)))
 
@@ -69,9 +69,9 @@ module _ (known fresh : List ℕ) (seats : Seats) (room id k : ℕ) where
       miss : count id (known ++ take seats.many fresh) ≡ 0
       miss = omega (arith, count-append id known (take seats.many fresh), known-spot.miss (omega (arith, known-spot.inside)), spot.miss (omega (arith, spot.inside, fresh-long)))
 
-      sat-new : (ns : List Running) → map id_of ns ≡ known ++ take seats.many fresh → Sat known fresh fresh' seats (record { many = seats.many + 1; over = k }) room id k ns
-      sat-new ns e =
-          let behind : countedOn id ns ≡ ns ++ (record { id = id; next = 1 } ∷ []) = (counted-new id ns (ap (count id) e ∙ miss)).behind in
+      sat_new : (ns : List Running) → map id_of ns ≡ known ++ take seats.many fresh → Sat known fresh fresh' seats (record { many = seats.many + 1; over = k }) room id k ns
+      sat_new ns e =
+          let behind : counted_on id ns ≡ ns ++ (record { id = id; next = 1 } ∷ []) = (counted_new id ns (ap (count id) e ∙ miss)).behind in
           let size : length ns ≡ length known + seats.many = sym (length-map ns id_of) ∙ ap length e ∙ held-long in
           record {
             many = omega (arith, size, ap length behind, length-append ns (record { id = id; next = 1 } ∷ []));
@@ -83,8 +83,8 @@ module _ (known fresh : List ℕ) (seats : Seats) (room id k : ℕ) where
             over = λ o. refl;
           }
 
-      pub seated-new : Seated known fresh fresh' seats (record { many = seats.many + 1; over = k }) room id packages k
-      seated-new = record { long = same; idle = λ l. absurd (omega arith); none = λ z. absurd (some z); full = λ l. absurd (omega arith); one = λ c h l ns e. sat-new ns e }
+      pub seated_new : Seated known fresh fresh' seats (record { many = seats.many + 1; over = k }) room id packages k
+      seated_new = record { long = same; idle = λ l. absurd (omega arith); none = λ z. absurd (some z); full = λ l. absurd (omega arith); one = λ c h l ns e. sat_new ns e }
 
 -- ---- message by message
 
@@ -99,51 +99,51 @@ module _ (rs : List rows.Row) (known : List ℕ) (room : ℕ) where
   top = length known + room
 
   abbrev pub later : List Taken → List Running
-  later done = numbersAfter (named known) (released rs (map messageOf done))
+  later done = numbers_after (named known) (released rs (map message_of done))
 
-  later_more : (done : List Taken) (t : Taken) → later (done ++ (t ∷ [])) ≡ numbersAfter (later done) (released rs (t.message ∷ []))
+  later_more : (done : List Taken) (t : Taken) → later (done ++ (t ∷ [])) ≡ numbers_after (later done) (released rs (t.message ∷ []))
   later_more done t =
-      ap (λ (ms : List messages.Message). numbersAfter (named known) (released rs ms)) (map-append messageOf done (t ∷ []))
-      ∙ ap (numbersAfter (named known)) (released-append rs (map messageOf done) (t.message ∷ []))
-      ∙ after-append (named known) (released rs (map messageOf done)) (released rs (t.message ∷ []))
+      ap (λ (ms : List messages.Message). numbers_after (named known) (released rs ms)) (map-append message_of done (t ∷ []))
+      ∙ ap (numbers_after (named known)) (released-append rs (map message_of done) (t.message ∷ []))
+      ∙ after-append (named known) (released rs (map message_of done)) (released rs (t.message ∷ []))
 
   -- the ids so far are known or fresh
   pub record Under (fresh : List ℕ) (many : ℕ) (done : List Taken) : Type 0 where
     pub held : map id_of (later done) ≡ known ++ take many fresh
     pub once : (x : ℕ) → count x (known ++ take many fresh) ≤ 1
-    pub passed : (rest : List Taken) → idsFit top rs (named known) (done ++ rest) ≡ idsFit top rs (later done) rest
+    pub passed : (rest : List Taken) → ids_fit top rs (named known) (done ++ rest) ≡ ids_fit top rs (later done) rest
 
   pub record Seating (fresh : List ℕ) (seats : Seats) (done : List Taken) : Type 0 where
     pub under : seats.many ≤ room → Under fresh seats.many done
-    pub over : room < seats.many → (rest : List Taken) → idsFit top rs (named known) (done ++ rest) ≡ bad IDS seats.over
+    pub over : room < seats.many → (rest : List Taken) → ids_fit top rs (named known) (done ++ rest) ≡ bad IDS seats.over
 
-  pub seating-start : (fresh : List ℕ) → Single known → Seating fresh (record { many = 0; over = 0 }) []
-  unfolding released numbersAfter
-  seating-start fresh single = record {
+  pub seating_start : (fresh : List ℕ) → Single known → Seating fresh (record { many = 0; over = 0 }) []
+  unfolding released numbers_after
+  seating_start fresh single = record {
     under = λ l. record { held = named-ids known ∙ sym (append-nil known); once = λ x. subst (λ (s : List ℕ). count x s ≤ 1) (sym (append-nil known)) (single.once x); passed = λ rest. refl };
     over = λ l. absurd (omega arith);
   }
 
   module _ (fresh : List ℕ) (seats : Seats) (done : List Taken) (inv : Seating fresh seats done) where
     -- all messages are done
-    pub seating-fits : seats.many ≤ room → idsFit top rs (named known) done ≡ good tt
-    unfolding idsFit
-    seating-fits l = ap (idsFit top rs (named known)) (sym (append-nil done)) ∙ (inv.under l).passed []
+    pub seating_fits : seats.many ≤ room → ids_fit top rs (named known) done ≡ good tt
+    unfolding ids_fit
+    seating_fits l = ap (ids_fit top rs (named known)) (sym (append-nil done)) ∙ (inv.under l).passed []
 
-    pub seating-over : room < seats.many → idsFit top rs (named known) done ≡ bad IDS seats.over
-    seating-over l = ap (idsFit top rs (named known)) (sym (append-nil done)) ∙ inv.over l []
+    pub seating_over : room < seats.many → ids_fit top rs (named known) done ≡ bad IDS seats.over
+    seating_over l = ap (ids_fit top rs (named known)) (sym (append-nil done)) ∙ inv.over l []
 
     -- one message more, at place k, with these granted packages
     module _ (count-them : room ≤ 64) (long : length fresh ≡ 64) (t : Taken) (id packages : ℕ) (fresh' : List ℕ) (seats' : Seats) (seated : Seated known fresh fresh' seats seats' room id packages t.place) where
       abbrev done' : List Taken
       done' = done ++ (t ∷ [])
 
-      behind-done : (rest : List Taken) → idsFit top rs (named known) (done' ++ rest) ≡ idsFit top rs (named known) (done ++ (t ∷ rest))
-      behind-done rest = ap (idsFit top rs (named known)) (append_assoc done (t ∷ []) rest)
+      behind-done : (rest : List Taken) → ids_fit top rs (named known) (done' ++ rest) ≡ ids_fit top rs (named known) (done ++ (t ∷ rest))
+      behind-done rest = ap (ids_fit top rs (named known)) (append_assoc done (t ∷ []) rest)
 
       -- too many already
-      pub still-over : room < seats.many → Seating fresh' seats' done'
-      still-over l =
+      pub still_over : room < seats.many → Seating fresh' seats' done'
+      still_over l =
           let (a, b) = seated.full l in
           let more : room < seats'.many = omega (arith, ap (λ (s : Seats). s.many) a) in
           record { under = λ m. absurd (omega arith); over = λ m rest. behind-done rest ∙ inv.over l (t ∷ rest) ∙ ap (λ (s : Seats). bad IDS s.over) (sym a) }
@@ -152,8 +152,8 @@ module _ (rs : List rows.Row) (known : List ℕ) (room : ℕ) where
         abbrev u : Under fresh seats.many done
         u = inv.under l
 
-        long-so-far : length (later done) ≡ length known + seats.many
-        long-so-far = sym (length-map (later done) id_of) ∙ ap length u.held ∙ held-long known fresh seats room id t.place (omega arith)
+        long_so_far : length (later done) ≡ length known + seats.many
+        long_so_far = sym (length-map (later done) id_of) ∙ ap length u.held ∙ held-long known fresh seats room id t.place (omega arith)
 
         -- the ids behind it: so many, and these
         pub record More : Type 0 where
@@ -164,13 +164,13 @@ module _ (rs : List rows.Row) (known : List ℕ) (room : ℕ) where
 
         -- no entry
         pub more-none : released rs (t.message ∷ []) ≡ [] → packages ≡ 0 → More
-        unfolding numbersAfter
+        unfolding numbers_after
         more-none e z =
             let (a, b) = seated.none z in
-            let same : later done' ≡ later done = later_more done t ∙ ap (numbersAfter (later done)) e in
+            let same : later done' ≡ later done = later_more done t ∙ ap (numbers_after (later done)) e in
             let m : seats'.many ≡ seats.many = ap (λ (s : Seats). s.many) a in
             record {
-              many = omega (arith, m, long-so-far, ap length same);
+              many = omega (arith, m, long_so_far, ap length same);
               ids = λ f. ap (map id_of) same ∙ u.held ∙ rw (m, b);
               once = λ f x. rw (m, b) (u.once x);
               place = λ f. absurd (omega arith);
@@ -178,9 +178,9 @@ module _ (rs : List rows.Row) (known : List ℕ) (room : ℕ) where
 
         -- one entry
         pub more-one : (e : Entry) → released rs (t.message ∷ []) ≡ e ∷ [] → e.id ≡ id → (packages ≡ 0 → ⊥) → More
-        unfolding numbersAfter
+        unfolding numbers_after
         more-one e q i h =
-            let same : later done' ≡ countedOn id (later done) = later_more done t ∙ ap (numbersAfter (later done)) q ∙ ap (λ (x : ℕ). countedOn x (later done)) i in
+            let same : later done' ≡ counted_on id (later done) = later_more done t ∙ ap (numbers_after (later done)) q ∙ ap (λ (x : ℕ). counted_on x (later done)) i in
             let sat = seated.one count-them h l (later done) u.held in
             record {
               many = omega (arith, sat.many, ap length same);
@@ -189,17 +189,17 @@ module _ (rs : List rows.Row) (known : List ℕ) (room : ℕ) where
               place = sat.over;
             }
 
-        pub more-seated : More → Seating fresh' seats' done'
-        unfolding idsFit
-        more-seated w =
-            let size : length (numbersAfter (later done) (released rs (t.message ∷ []))) ≡ length known + seats'.many = ap length (sym (later_more done t)) ∙ sym w.many in
+        pub more_seated : More → Seating fresh' seats' done'
+        unfolding ids_fit
+        more_seated w =
+            let size : length (numbers_after (later done) (released rs (t.message ∷ []))) ≡ length known + seats'.many = ap length (sym (later_more done t)) ∙ sym w.many in
             record {
               under = λ f. record {
                 held = w.ids f;
                 once = w.once f;
                 passed = λ rest. behind-done rest ∙ u.passed (t ∷ rest)
-                    ∙ pass _ _ _ _ (le-ltb top (length (numbersAfter (later done) (released rs (t.message ∷ [])))) (omega (arith, size))) (ap (λ (x : List Running). idsFit top rs x rest) (sym (later_more done t)));
+                    ∙ pass _ _ _ _ (le-ltb top (length (numbers_after (later done) (released rs (t.message ∷ [])))) (omega (arith, size))) (ap (λ (x : List Running). ids_fit top rs x rest) (sym (later_more done t)));
               };
               over = λ f rest. behind-done rest ∙ u.passed (t ∷ rest)
-                  ∙ halt _ _ _ _ (lt-ltb top (length (numbersAfter (later done) (released rs (t.message ∷ [])))) (omega (arith, size))) ∙ ap (bad IDS) (sym (w.place f));
+                  ∙ halt _ _ _ _ (lt-ltb top (length (numbers_after (later done) (released rs (t.message ∷ [])))) (omega (arith, size))) ∙ ap (bad IDS) (sym (w.place f));
             }

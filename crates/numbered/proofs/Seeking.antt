@@ -57,29 +57,29 @@ pub record Seeking (ids : List ℕ) (x found i : ℕ) : Type 0 where
   pub unmet : found ≡ 0 → count x (take i ids) ≡ 0
 
 module _ (ids : List ℕ) (x : ℕ) where
-  pub seek-start : Seeking ids x 0 0
+  pub seek_start : Seeking ids x 0 0
   unfolding count
-  seek-start = record { most = omega arith; met = λ h. absurd (h refl); unmet = λ e. refl }
+  seek_start = record { most = omega arith; met = λ h. absurd (h refl); unmet = λ e. refl }
 
   module _ (found i : ℕ) (inv : Seeking ids x found i) where
-    pub seek-ended : length ids ≤ i → Place ids x (length ids - found)
-    seek-ended l = record {
+    pub seek_ended : length ids ≤ i → Place ids x (length ids - found)
+    seek_ended l = record {
       inside = omega arith;
       hit = λ h. (inv.met (λ z. omega arith)).0;
       miss = λ h. rw (take_all i ids l) at (inv.unmet (omega (arith, inv.most)));
     }
 
     module _ (l : i < length ids) where
-      one_more : count x (take (i + 1) ids) ≡ count x (take i ids) + count x (get_or ids i 0 ∷ [])
-      one_more = rw (add-one i, take-suc ids i 0 l, count-append)
+      one_more_lem : count x (take (i + 1) ids) ≡ count x (take i ids) + count x (get_or ids i 0 ∷ [])
+      one_more_lem = rw (add-one i, take-suc ids i 0 l, count-append)
 
-      pub seek-miss : (get_or ids i 0 ≡ x → ⊥) → Seeking ids x found (i + 1)
-      seek-miss h =
+      pub seek_miss : (get_or ids i 0 ≡ x → ⊥) → Seeking ids x found (i + 1)
+      seek_miss h =
           let z = count-other x (get_or ids i 0) (λ e. h (sym e)) in
           record {
             most = inv.most;
-            met = λ s. ((inv.met s).0, omega (arith, (inv.met s).1, one_more, z));
-            unmet = λ s. omega (arith, inv.unmet s, one_more, z);
+            met = λ s. ((inv.met s).0, omega (arith, (inv.met s).1, one_more_lem, z));
+            unmet = λ s. omega (arith, inv.unmet s, one_more_lem, z);
           }
 
       -- it was not met before, since it stands there once
@@ -90,11 +90,11 @@ module _ (ids : List ℕ) (x : ℕ) where
           all = sym (count-append x (take (i + 1) ids) (drop (i + 1) ids)) ∙ rw take-append-drop
 
           go : (f : ℕ) → found ≡ f → Seeking ids x (f + left) (i + 1)
-          go (suc f) q = absurd (omega (arith, (inv.met (λ z. omega arith)).1, one_more, all, count_same x (get_or ids i 0) (sym e)))
+          go (suc f) q = absurd (omega (arith, (inv.met (λ z. omega arith)).1, one_more_lem, all, count_same x (get_or ids i 0) (sym e)))
           go zero q =
               let p : length ids - (0 + left) ≡ i = omega arith in
               record {
                 most = omega arith;
-                met = λ s. (rw p e, omega (arith, inv.unmet q, one_more, count_same x (get_or ids i 0) (sym e)));
+                met = λ s. (rw p e, omega (arith, inv.unmet q, one_more_lem, count_same x (get_or ids i 0) (sym e)));
                 unmet = λ s. absurd (omega arith);
               }

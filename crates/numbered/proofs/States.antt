@@ -11,7 +11,7 @@ use lib.ListN.{length, take, drop, take-append-drop}
 use lib.Seq.{sets, sets-eq, length-take-le}
 use Rattle.rules.proofs.Outcomes.{neither}
 use Rattle.numbered.specs.Numbering.{Running, beside, id_of, next_of}
-use Rattle.numbered.specs.Quota.{badIds, someTwice}
+use Rattle.numbered.specs.Quota.{bad_ids, some_twice}
 
 -- ---- ids and numbers side by side
 
@@ -34,10 +34,10 @@ beside-length [] ns e = refl
 beside-length (x ∷ xs) [] e = absurd (omega arith)
 beside-length (x ∷ xs) (n ∷ ns) e = ap suc (beside-length xs ns (omega arith))
 
-pub beside-maps : (ns : List Running) → beside (map id_of ns) (map next_of ns) ≡ ns
+pub beside_maps : (ns : List Running) → beside (map id_of ns) (map next_of ns) ≡ ns
 unfolding beside
-beside-maps [] = refl
-beside-maps (n ∷ ns) = ap (λ (l : List Running). n ∷ l) (beside-maps ns)
+beside_maps [] = refl
+beside_maps (n ∷ ns) = ap (λ (l : List Running). n ∷ l) (beside_maps ns)
 
 -- ---- the first places of a list
 
@@ -49,18 +49,18 @@ sets_same n l h =
 -- ---- ids that can be held
 
 module _ (most : ℕ) (ids : List ℕ) (held : ℕ) where
-  pub good-few : badIds most ids held ≡ false → held ≤ most
-  unfolding badIds
+  pub good-few : bad_ids most ids held ≡ false → held ≤ most
+  unfolding bad_ids
   good-few e = ltb-false _ _ (neither _ _ e).0
 
-  pub good-single : badIds most ids held ≡ false → someTwice (take held ids) ≡ false
-  unfolding badIds
-  good-single e = (neither (ltb most held) (someTwice (take held ids)) e).1
+  pub good-single : bad_ids most ids held ≡ false → some_twice (take held ids) ≡ false
+  unfolding bad_ids
+  good-single e = (neither (ltb most held) (some_twice (take held ids)) e).1
 
-  pub bad-many : most < held → true ≡ badIds most ids held
-  unfolding badIds
+  pub bad-many : most < held → true ≡ bad_ids most ids held
+  unfolding bad_ids
   bad-many l = rw (lt-ltb most held l)
 
-  pub bad-twice : held ≤ most → someTwice (take held ids) ≡ badIds most ids held
-  unfolding badIds
+  pub bad-twice : held ≤ most → some_twice (take held ids) ≡ bad_ids most ids held
+  unfolding bad_ids
   bad-twice l = rw (le-ltb most held l)

@@ -15,7 +15,7 @@ use Rattle.rules.proofs.Numbers.{put32-at}
 use Rattle.rules.proofs.Loops.{sets-sets, set_before}
 use Rattle.message.specs.declared.Header.{Header}
 use Rattle.message.specs.declared.Package.{Package}
-use Rattle.numbered.specs.Parts.{headBytes, pieceAs, Placed}
+use Rattle.numbered.specs.Parts.{head_bytes, piece_as, Placed}
 
 -- a run of stores before another can be made behind it
 pub sets-before : (xs ys b : List ℕ) (i : ℕ) → sets (sets b (i + length xs) ys) i xs ≡ sets b i (xs ++ ys)
@@ -60,8 +60,8 @@ pub words-all : (b : List ℕ) (at x y : ℕ) {b1 b2 : List ℕ} → b1 ≡ sets
 words-all b at x y e1 e2 = rw (e2, e1, sets-sets (put32 x []) (put32 y []) b at)
 
 -- a number among those that are stored is stored anew
-stored-anew : (xs ys b : List ℕ) (i y z : ℕ) → set (sets b i (xs ++ (y ∷ ys))) (i + length xs) z ≡ sets b i (xs ++ (z ∷ ys))
-stored-anew xs ys b i y z =
+stored_anew : (xs ys b : List ℕ) (i y z : ℕ) → set (sets b i (xs ++ (y ∷ ys))) (i + length xs) z ≡ sets b i (xs ++ (z ∷ ys))
+stored_anew xs ys b i y z =
     let j = i + length xs in
     let c = sets b i xs in
     ap (λ (l : List ℕ). set l j z) (sym (sets-sets xs (y ∷ ys) b i)) ∙ set_before ys (set c j y) (suc j) j z (omega arith)
@@ -114,13 +114,13 @@ module _ (run : List ℕ) (p : Package) (b : List ℕ) (at : ℕ) (in_place : Pl
       e3 ∙ ap (λ (i : ℕ). sets b2 (at + 4) (take i (drop 4 run))) m ∙ ap (λ (c : List ℕ). sets c (at + 4) behind) (e2 ∙ ap (sets b1 at) w)
       ∙ ap (λ (i : ℕ). sets (sets b1 at front) (at + i) behind) (sym l) ∙ sets-sets front behind b1 at ∙ ap (sets b1 at) (sym all)
 
-  pub package-all : b4 ≡ sets b at (pieceAs run p)
-  unfolding pieceAs
-  package-all =
+  pub package_all : b4 ≡ sets b at (piece_as run p)
+  unfolding piece_as
+  package_all =
       let padded : b3 ≡ sets b at (own ++ zeros) = in_two ∙ rw e1 (zeros-left own b at (at + (p.next - 4)) (p.next - p.to) (omega (arith, in_place.little)) (omega arith) (omega (arith, length-own, in_place.front, in_place.padding))) in
       let split : b3 ≡ sets b at (six ++ (seventh ∷ tail ++ zeros)) = padded ∙ ap (λ (l : List ℕ). sets b at (l ++ zeros)) own_is ∙ ap (sets b at) (append_assoc six (seventh ∷ tail) zeros) in
       e4 ∙ ap (λ (l : List ℕ). set l (at + 6) 0) split ∙ ap (λ (n : ℕ). set (sets b at (six ++ (seventh ∷ tail ++ zeros))) (at + n) 0) (sym length-six)
-      ∙ stored-anew six (tail ++ zeros) b at seventh 0 ∙ ap (sets b at) (sym (append_assoc six (0 ∷ tail) zeros))
+      ∙ stored_anew six (tail ++ zeros) b at seventh 0 ∙ ap (sets b at) (sym (append_assoc six (0 ∷ tail) zeros))
 
 -- a header's first byte, two zeros and its flags as one word
 front-flags : (f : ℕ) (t : List ℕ) → f < 256 → put32 (268435456 + f) t ≡ 16 ∷ 0 ∷ 0 ∷ f ∷ t
@@ -139,8 +139,8 @@ module _ (b : List ℕ) (at : ℕ) (h : Header) (n size : ℕ) {b1 b2 b3 : List 
   abbrev flags : ℕ
   flags = 192 + h.flags / 2 % 8 * 2
 
-  pub head-all : b3 ≡ sets b at (headBytes h n size)
-  unfolding headBytes
+  pub head-all : b3 ≡ sets b at (head_bytes h n size)
+  unfolding head_bytes
   head-all =
       let front = put32 (268435456 + flags) (put32 h.id.0 []) in
       let middle = put32 n (put32 size []) in

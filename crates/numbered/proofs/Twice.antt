@@ -11,7 +11,7 @@ use lib.ListN.{length, get_or, drop, drop_of_length-le}
 use lib.Seq.{drop-cons}
 use Rattle.rules.specs.Items.{count}
 use Rattle.rules.proofs.Outcomes.{neither}
-use Rattle.numbered.specs.Quota.{someTwice}
+use Rattle.numbered.specs.Quota.{some_twice}
 use Rattle.numbered.proofs.Numbers.{count-cons}
 use Rattle.numbered.proofs.Seeking.{count_same, count-other}
 
@@ -35,29 +35,29 @@ module _ (ids : List ℕ) (x k : ℕ) where
 -- ---- whether some id of those from place i on stands twice
 
 module _ (ids : List ℕ) (i : ℕ) where
-  pub twice-end : length ids ≤ i → someTwice (drop i ids) ≡ false
-  unfolding someTwice
-  twice-end l = ap someTwice (drop_of_length-le ids l)
+  pub twice-end : length ids ≤ i → some_twice (drop i ids) ≡ false
+  unfolding some_twice
+  twice-end l = ap some_twice (drop_of_length-le ids l)
 
   module _ (l : i < length ids) where
-    twice-is : someTwice (drop i ids) ≡ (ltb 0 (count (get_or ids i 0) (drop (i + 1) ids)) || someTwice (drop (i + 1) ids))
-    unfolding someTwice
-    twice-is = ap someTwice (rest-is ids 0 i l)
+    twice-is : some_twice (drop i ids) ≡ (ltb 0 (count (get_or ids i 0) (drop (i + 1) ids)) || some_twice (drop (i + 1) ids))
+    unfolding some_twice
+    twice-is = ap some_twice (rest-is ids 0 i l)
 
-    pub twice-hit : ltb 0 (count (get_or ids i 0) (drop (i + 1) ids)) ≡ true → someTwice (drop i ids) ≡ true
+    pub twice-hit : ltb 0 (count (get_or ids i 0) (drop (i + 1) ids)) ≡ true → some_twice (drop i ids) ≡ true
     twice-hit e = twice-is ∙ rw e
 
-    pub twice-next : ltb 0 (count (get_or ids i 0) (drop (i + 1) ids)) ≡ false → someTwice (drop i ids) ≡ someTwice (drop (i + 1) ids)
+    pub twice-next : ltb 0 (count (get_or ids i 0) (drop (i + 1) ids)) ≡ false → some_twice (drop i ids) ≡ some_twice (drop (i + 1) ids)
     twice-next e = twice-is ∙ rw e
 
 -- ---- none does exactly if each stands once at most
 
-pub twice-once : (l : List ℕ) → someTwice l ≡ false → (x : ℕ) → count x l ≤ 1
-unfolding someTwice count
+pub twice-once : (l : List ℕ) → some_twice l ≡ false → (x : ℕ) → count x l ≤ 1
+unfolding some_twice count
 twice-once [] e x = omega arith
 twice-once (y ∷ l) e x = go (eqb x y) refl (twice-once l both.1 x)
   where
-    both : (ltb 0 (count y l) ≡ false) × (someTwice l ≡ false)
+    both : (ltb 0 (count y l) ≡ false) × (some_twice l ≡ false)
     both = neither _ _ e
 
     go : (b : Bool) → eqb x y ≡ b → count x l ≤ 1 → count x (y ∷ l) ≤ 1
@@ -66,8 +66,8 @@ twice-once (y ∷ l) e x = go (eqb x y) refl (twice-once l both.1 x)
         omega (arith, count-cons x y l, count_same x y z, ltb-false 0 (count y l) both.0, ap (λ (k : ℕ). count k l) z)
     go false t h = omega (arith, count-cons x y l, count-other x y (eqb-false x y t), h)
 
-pub once-twice : (l : List ℕ) → ((x : ℕ) → count x l ≤ 1) → someTwice l ≡ false
-unfolding someTwice
+pub once-twice : (l : List ℕ) → ((x : ℕ) → count x l ≤ 1) → some_twice l ≡ false
+unfolding some_twice
 once-twice [] once = refl
 once-twice (y ∷ l) once =
     rw (le-ltb 0 (count y l) (omega (arith, once y, count-cons y y l, count_same y y refl)))

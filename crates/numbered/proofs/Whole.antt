@@ -16,21 +16,21 @@ use Rattle.rules.specs.Message.{Message, message}
 use Rattle.rules.specs.Sheet as rows
 use Rattle.rules.specs.Copy.{Entry, released}
 use Rattle.rules.proofs.Loops.{sets-sets}
-use Rattle.rules.proofs.Outcomes.{pass, halt, step, stop, passed, came-after, stepped, good-inj, good≢bad, refused-step, refused-at, stop-before, refused-checks}
+use Rattle.rules.proofs.Outcomes.{pass, halt, step, stop, passed, came_after, stepped, good_inj, good≢bad, refused-step, refused-at, stop_before, refused-checks}
 use Rattle.refusal.specs.declared.Refusal.{Refusal}
 use Rattle.refusal.specs.declared.Why.TheVariants.{Room, Ids}
 use Rattle.refusal.specs.Numbers.{number_of}
 use Rattle.numbered.specs.declared.Progress.{Progress}
 use Rattle.numbered.specs.declared.Answer.{Answer}
 use Rattle.numbered.specs.declared.Answer.TheVariants as answer
-use Rattle.numbered.specs.Numbering.{Running, numbersAfter, numberedBytes, State, runningIn, id_of, next_of, holding}
-use Rattle.numbered.specs.Quota.{badIds, Taken, takenFrom, messageOf, bytesTaken, idsFit, delivering, measuring, Report, reported, numberedCopy, settled, shorter, mostIn}
-use Rattle.numbered.specs.Parts.{named, flagsIn, Tells, Marked, Single, Roomy, Wrote, known_of, roomOf, Most, refusedIds}
-use Rattle.numbered.specs.Told.{totals, progress, measured, toldMeasure, MarkedBy, report, state_of, told}
+use Rattle.numbered.specs.Numbering.{Running, numbers_after, numbered_bytes, State, running_in, id_of, next_of, holding}
+use Rattle.numbered.specs.Quota.{bad_ids, Taken, taken_from, message_of, bytes_taken, ids_fit, delivering, measuring, Report, reported, numbered_copy, settled, shorter, most_in}
+use Rattle.numbered.specs.Parts.{named, flags_in, Tells, Marked, Single, Roomy, Wrote, known_of, room_of, Most, refused_ids}
+use Rattle.numbered.specs.Told.{totals, progress, measured, told_measure, MarkedBy, report, state_of, told}
 use Rattle.numbered.proofs.Messages.{First, first_taken, few-released}
 use Rattle.numbered.proofs.States.{beside-ids, beside-length, sets_same, good-few, good-single}
 use Rattle.numbered.proofs.Twice.{twice-once}
-use Rattle.numbered.proofs.Ids.{ids-few, ids-good, after_same, ids-same, after-length, refused-room, copy_done}
+use Rattle.numbered.proofs.Ids.{ids-few, ids-good, after_same, ids_same, after-length, refused-room, copy_done}
 use Rattle.numbered.proofs.Seating.{named-ids}
 use Rattle.numbered.proofs.Entries.{bytes-length}
 
@@ -64,35 +64,35 @@ most-ids ids held most l m = record {
   small = omega arith;
 }
 
-pub most-held : (places held : ℕ) → (held ≡ 0 → ⊥) → shorter places 64 ≡ mostIn places held
-most-held places held h = rw (ne_eqb held 0 h, mostIn)
+pub most-held : (places held : ℕ) → (held ≡ 0 → ⊥) → shorter places 64 ≡ most_in places held
+most-held places held h = rw (ne_eqb held 0 h, most_in)
 
-pub most_narrow : (places held : ℕ) → places < 1820 → shorter places 64 ≡ mostIn places held
+pub most_narrow : (places held : ℕ) → places < 1820 → shorter places 64 ≡ most_in places held
 most_narrow places held l = go (eqb held 0)
   where
     go : (b : Bool) → shorter places 64 ≡ elim (b && leb 1820 places) [ true ↦ 1820 | false ↦ shorter places 64 ]
     go true = rw (lt-leb 1820 places l)
     go false = refl
 
-pub most-wide : (places held : ℕ) → held ≡ 0 → 1820 ≤ places → 1820 ≡ mostIn places held
-most-wide places held e l = rw (eq-eqb held 0 e, le-leb 1820 places l, mostIn)
+pub most-wide : (places held : ℕ) → held ≡ 0 → 1820 ≤ places → 1820 ≡ most_in places held
+most-wide places held e l = rw (eq-eqb held 0 e, le-leb 1820 places l, most_in)
 
 -- room for all that an input can bring
-pub most-all : (m n held : ℕ) → held ≡ 0 → 1820 ≤ m → 1820 ≤ n → 1820 ≤ mostIn (shorter m n) held
+pub most-all : (m n held : ℕ) → held ≡ 0 → 1820 ≤ m → 1820 ≤ n → 1820 ≤ most_in (shorter m n) held
 most-all m n held e a b = go (leb m n) refl
   where
     longer : (c : Bool) → leb m n ≡ c → 1820 ≤ shorter m n
     longer true f = rw (f, shorter) a
     longer false f = rw (f, shorter) b
 
-    go : (c : Bool) → leb m n ≡ c → 1820 ≤ mostIn (shorter m n) held
+    go : (c : Bool) → leb m n ≡ c → 1820 ≤ most_in (shorter m n) held
     go c f = omega (arith, most-wide (shorter m n) held e (longer c f))
 
 -- so that all are among the first of two lists
 pub most-first : (m n held most : ℕ) → Most (shorter m n) held most → most ≤ m
 most-first m n held most w = omega (arith, w.inside, (shorter-least m n).0)
 
-pub most-is : (places held : ℕ) → Most places held (mostIn places held)
+pub most-is : (places held : ℕ) → Most places held (most_in places held)
 most-is places held = go (eqb held 0) refl (leb 1820 places) refl
   where
     go : (a : Bool) → eqb held 0 ≡ a → (b : Bool) → leb 1820 places ≡ b → Most places held (elim (a && b) [ true ↦ 1820 | false ↦ shorter places 64 ])
@@ -116,24 +116,24 @@ module _ (input sheetBytes : List ℕ) (quota : ℕ) (ids next : List ℕ) (held
   -- a refusal of either
   refusal : (alone : Bool) (f : Refusal) → outcome alone ≡ bad (number_of f.why) f.place
       → told (record { answer = answer.Refused f; held = held }) ids next buffer ≡ settled alone most input sheetBytes quota state buffer
-  unfolding settled numberedCopy reported
+  unfolding settled numbered_copy reported
   refusal true f e = sym (ap (λ (o : Outcome (List Taken × List Entry)). ((reported state buffer o).0, state, buffer)) e)
   refusal false f e = sym (ap (reported state buffer) e)
 
-  pub ids-refused : (alone : Bool) → true ≡ refusedIds alone most ids held
+  pub ids-refused : (alone : Bool) → true ≡ refused_ids alone most ids held
       → told (record { answer = answer.Refused (record { why = Ids; place = 0 }); held = held }) ids next buffer ≡ settled alone most input sheetBytes quota state buffer
   unfolding delivering
   ids-refused true e = let z : ◌≡◌ {A = ℕ} 0 1 = cc in absurd (omega arith)
   ids-refused false e = refusal false (record { why = Ids; place = 0 }) (halt _ _ _ _ (sym e))
 
-  pub sheet-refused : (alone : Bool) → refusedIds alone most ids held ≡ false → (f : Refusal) → rows.sheet sheetBytes ≡ bad (number_of f.why) f.place
+  pub sheet-refused : (alone : Bool) → refused_ids alone most ids held ≡ false → (f : Refusal) → rows.sheet sheetBytes ≡ bad (number_of f.why) f.place
       → told (record { answer = answer.Refused f; held = held }) ids next buffer ≡ settled alone most input sheetBytes quota state buffer
   unfolding measuring delivering
   sheet-refused true g f b = refusal true f (stop _ _ b)
   sheet-refused false g f b = refusal false f (pass _ _ _ _ g (stop _ _ b))
 
   -- what is known of ids that can be held
-  module _ (good-ids : badIds most ids held ≡ false) where
+  module _ (good-ids : bad_ids most ids held ≡ false) where
     held-few : held ≤ most
     held-few = good-few most ids held good-ids
 
@@ -153,26 +153,26 @@ module _ (input sheetBytes : List ℕ) (quota : ℕ) (ids next : List ℕ) (held
     top-is = omega (arith, ids-long, held-few)
 
     -- the ids known are those of the running numbers
-    same-ids : map id_of (named (take held ids)) ≡ map id_of (runningIn state)
-    same-ids = named-ids (take held ids) ∙ sym (beside-ids (take held ids) (take held next) (ids-long ∙ sym next-long))
+    same_ids : map id_of (named (take held ids)) ≡ map id_of (running_in state)
+    same_ids = named-ids (take held ids) ∙ sym (beside-ids (take held ids) (take held next) (ids-long ∙ sym next-long))
 
-    same-fit : (rs : List rows.Row) (ts : List Taken) → idsFit (length (take held ids) + (most - held)) rs (named (take held ids)) ts ≡ idsFit most rs (runningIn state) ts
-    same-fit rs ts = ap (λ (k : ℕ). idsFit k rs (named (take held ids)) ts) top-is ∙ ids-same most rs (named (take held ids)) (runningIn state) ts same-ids
+    same_fit : (rs : List rows.Row) (ts : List Taken) → ids_fit (length (take held ids) + (most - held)) rs (named (take held ids)) ts ≡ ids_fit most rs (running_in state) ts
+    same_fit rs ts = ap (λ (k : ℕ). ids_fit k rs (named (take held ids)) ts) top-is ∙ ids_same most rs (named (take held ids)) (running_in state) ts same_ids
 
   -- measured alone, the ids are never too many
-  module _ (rs : List rows.Row) (short : length input ≤ 65536) (ts : List Taken) (t : takenFrom input quota ≡ good ts) where
-    never-many : idsFit (length {A = ℕ} (take 0 ids) + 1820) rs (named (take 0 ids)) ts ≡ good tt
+  module _ (rs : List rows.Row) (short : length input ≤ 65536) (ts : List Taken) (t : taken_from input quota ≡ good ts) where
+    never_many : ids_fit (length {A = ℕ} (take 0 ids) + 1820) rs (named (take 0 ids)) ts ≡ good tt
     unfolding named
-    never-many = ids-good 1820 rs [] ts (omega (arith, (after-length [] (released rs (map messageOf ts))).most, few-released rs input quota short t))
+    never_many = ids-good 1820 rs [] ts (omega (arith, (after-length [] (released rs (map message_of ts))).most, few-released rs input quota short t))
 
   -- what measuring asks
   pub record Asked (alone : Bool) : Type 0 where
     pub inside : known_of alone held ≤ length ids
     pub small : length (take (known_of alone held) ids) ≤ 65536
     pub single : Single (take (known_of alone held) ids)
-    pub wide : 64 < roomOf alone most held → 1820 ≤ roomOf alone most held
+    pub wide : 64 < room_of alone most held → 1820 ≤ room_of alone most held
 
-  pub asked : (alone : Bool) → refusedIds alone most ids held ≡ false → Asked alone
+  pub asked : (alone : Bool) → refused_ids alone most ids held ≡ false → Asked alone
   unfolding count
   asked true g = record { inside = omega arith; small = omega arith; single = record { once = λ x. omega arith }; wide = λ l. omega arith }
   asked false g = record {
@@ -182,7 +182,7 @@ module _ (input sheetBytes : List ℕ) (quota : ℕ) (ids next : List ℕ) (held
     wide = w.wide;
   }
 
-  pub held-most : (alone : Bool) → refusedIds alone most ids held ≡ false → alone ≡ false → held ≤ most
+  pub held-most : (alone : Bool) → refused_ids alone most ids held ≡ false → alone ≡ false → held ≤ most
   held-most true g e = let z : ◌≡◌ {A = ℕ} 0 1 = cc in absurd (omega arith)
   held-most false g e = held-few g
 
@@ -191,54 +191,54 @@ module _ (input sheetBytes : List ℕ) (quota : ℕ) (ids next : List ℕ) (held
     pub record Measure (known : List ℕ) (room : ℕ) : Type 0 where
       pub taken : List Taken
       pub short : length input ≤ 65536
-      pub read : takenFrom input quota ≡ good taken
-      pub ids-fit : idsFit (length known + room) rs (named known) taken ≡ good tt
-      pub sum : progress (length taken) (bytesTaken taken) (totals (released rs (map messageOf taken))) ≡ p
+      pub read : taken_from input quota ≡ good taken
+      pub ids-fit : ids_fit (length known + room) rs (named known) taken ≡ good tt
+      pub sum : progress (length taken) (bytes_taken taken) (totals (released rs (map message_of taken))) ≡ p
 
     measure : (known : List ℕ) (room : ℕ) → good p ≡ measured rs input quota known room → Measure known room
     unfolding measured
     measure known room e =
         let (l, q) = passed _ _ _ _ (sym e) in
         let (ts, t, q) = stepped _ _ q in
-        let (i, q) = came-after _ _ q in
-        record { taken = ts; short = ltb-false _ _ l; read = t; ids-fit = i; sum = good-inj q }
+        let (i, q) = came_after _ _ q in
+        record { taken = ts; short = ltb-false _ _ l; read = t; ids-fit = i; sum = good_inj q }
 
     -- how many bytes its entries take, numbered on from anything
-    bytes-are : (known : List ℕ) (room : ℕ) (m : Measure known room) → length (numberedBytes (runningIn state) (released rs (map messageOf m.taken))) ≡ p.bytes
-    bytes-are known room m = bytes-length (runningIn state) [] (released rs (map messageOf m.taken)) ∙ ap (λ (x : Progress). x.bytes) m.sum
+    bytes-are : (known : List ℕ) (room : ℕ) (m : Measure known room) → length (numbered_bytes (running_in state) (released rs (map message_of m.taken))) ≡ p.bytes
+    bytes-are known room m = bytes-length (running_in state) [] (released rs (map message_of m.taken)) ∙ ap (λ (x : Progress). x.bytes) m.sum
 
     -- the report of what makes this progress
-    report-is : (known : List ℕ) (room : ℕ) (m : Measure known room) → report (answer.Done p) ≡ (reported state buffer (good (m.taken, released rs (map messageOf m.taken)))).0
+    report-is : (known : List ℕ) (room : ℕ) (m : Measure known room) → report (answer.Done p) ≡ (reported state buffer (good (m.taken, released rs (map message_of m.taken)))).0
     unfolding reported
     report-is known room m =
         ap (λ (x : Progress). report (answer.Done x)) (sym m.sum)
-        ∙ ap (λ (b : ℕ). record { number = 0; place = 0; handled = length m.taken; consumed = bytesTaken m.taken; bytes = b; messages = (totals (released rs (map messageOf m.taken))).messages; packages = (totals (released rs (map messageOf m.taken))).packages })
-        (sym (bytes-length (runningIn state) [] (released rs (map messageOf m.taken))))
+        ∙ ap (λ (b : ℕ). record { number = 0; place = 0; handled = length m.taken; consumed = bytes_taken m.taken; bytes = b; messages = (totals (released rs (map message_of m.taken))).messages; packages = (totals (released rs (map message_of m.taken))).packages })
+        (sym (bytes-length (running_in state) [] (released rs (map message_of m.taken))))
 
     -- written too
-    module _ (good-ids : badIds most ids held ≡ false) (e : good p ≡ measured rs input quota (take held ids) (most - held)) where
+    module _ (good-ids : bad_ids most ids held ≡ false) (e : good p ≡ measured rs input quota (take held ids) (most - held)) where
       abbrev m : Measure (take held ids) (most - held)
       m = measure (take held ids) (most - held) e
 
       abbrev es : List Entry
-      es = released rs (map messageOf m.taken)
+      es = released rs (map message_of m.taken)
 
       abbrev bytes : List ℕ
-      bytes = numberedBytes (runningIn state) es
+      bytes = numbered_bytes (running_in state) es
 
       abbrev numbers : List Running
-      numbers = numbersAfter (runningIn state) es
+      numbers = numbers_after (running_in state) es
 
       took : First quota input m.taken
       took = first_taken input quota m.read
 
-      fit : idsFit most rs (runningIn state) m.taken ≡ good tt
-      fit = sym (same-fit good-ids rs m.taken) ∙ m.ids-fit
+      fit : ids_fit most rs (running_in state) m.taken ≡ good tt
+      fit = sym (same_fit good-ids rs m.taken) ∙ m.ids-fit
 
       long : length bytes ≡ p.bytes
       long = bytes-are (take held ids) (most - held) m
 
-      consumed-is : bytesTaken m.taken ≡ p.consumed
+      consumed-is : bytes_taken m.taken ≡ p.consumed
       consumed-is = ap (λ (x : Progress). x.consumed) m.sum
 
       pub consumed-inside : p.consumed ≤ length input
@@ -247,14 +247,14 @@ module _ (input sheetBytes : List ℕ) (quota : ℕ) (ids next : List ℕ) (held
       pub part-short : length (take p.consumed input) ≤ 65536
       part-short = omega (arith, length-take p.consumed input, m.short)
 
-      part-read : items message 0 0 (take p.consumed input) ≡ good (map messageOf m.taken)
+      part-read : items message 0 0 (take p.consumed input) ≡ good (map message_of m.taken)
       part-read = ap (λ (k : ℕ). items message 0 0 (take k input)) (sym consumed-is) ∙ took.read 0
 
-      running-few : length (runningIn state) ≤ most
-      running-few = omega (arith, beside-length (take held ids) (take held next) (ids-long good-ids ∙ sym (next-long good-ids)), ids-long good-ids, held-few good-ids)
+      running_few : length (running_in state) ≤ most
+      running_few = omega (arith, beside-length (take held ids) (take held next) (ids-long good-ids ∙ sym (next-long good-ids)), ids-long good-ids, held-few good-ids)
 
       numbers-few : length numbers ≤ most
-      numbers-few = ids-few most rs (runningIn state) m.taken running-few fit
+      numbers-few = ids-few most rs (running_in state) m.taken running_few fit
 
       pub roomy : Roomy rs (take p.consumed input) ids next held
       roomy = record {
@@ -262,7 +262,7 @@ module _ (input sheetBytes : List ℕ) (quota : ℕ) (ids next : List ℕ) (held
         ids-held = omega (arith, held-few good-ids, ids-many good-ids);
         next-held = omega (arith, held-few good-ids, next-many good-ids);
         once = twice-once (take held ids) (good-single most ids held good-ids);
-        messages = map messageOf m.taken;
+        messages = map message_of m.taken;
         read = part-read;
         ids-room = omega (arith, numbers-few, ids-many good-ids);
         next-room = omega (arith, numbers-few, next-many good-ids);
@@ -271,49 +271,49 @@ module _ (input sheetBytes : List ℕ) (quota : ℕ) (ids next : List ℕ) (held
 
       -- bits that tell of what is taken tell of what is written
       pub marked-part : (marks : List ℕ) (r : Answer) → r ≡ answer.Done p → MarkedBy rs input quota marks r → Marked rs (take p.consumed input) marks
-      marked-part marks r d b = record { tells = λ ms q. subst (λ (x : List Message). Tells marks (flagsIn rs x)) (good-inj (sym part-read ∙ q)) (b.tells p d m.taken m.read) }
+      marked-part marks r d b = record { tells = λ ms q. subst (λ (x : List Message). Tells marks (flags_in rs x)) (good_inj (sym part-read ∙ q)) (b.tells p d m.taken m.read) }
 
   module _ (rs : List rows.Row) (valid : rows.sheet sheetBytes ≡ good rs) where
     -- messages that are refused
-    bad-outcome : (alone : Bool) → refusedIds alone most ids held ≡ false → (n p : ℕ) → bad n p ≡ measured rs input quota (take (known_of alone held) ids) (roomOf alone most held) → outcome alone ≡ bad n p
+    bad-outcome : (alone : Bool) → refused_ids alone most ids held ≡ false → (n p : ℕ) → bad n p ≡ measured rs input quota (take (known_of alone held) ids) (room_of alone most held) → outcome alone ≡ bad n p
     unfolding measured measuring delivering
     bad-outcome alone g n p e = ⊎_elim (λ l. over alone g l.0 l.1 l.2) (λ l. ⊎_elim (λ b. refuses alone g l.0 b) (λ a. crowds alone g l.0 a.0 a.1 (refused-checks _ _ a.2)) (refused-step _ _ l.1)) (refused-at _ _ _ _ (sym e))
       where
-        over : (alone : Bool) → refusedIds alone most ids held ≡ false → ltb 65536 (length input) ≡ true → 12 ≡ n → 65536 ≡ p → outcome alone ≡ bad n p
+        over : (alone : Bool) → refused_ids alone most ids held ≡ false → ltb 65536 (length input) ≡ true → 12 ≡ n → 65536 ≡ p → outcome alone ≡ bad n p
         over true g l a b = step _ _ valid (halt _ _ _ _ l) ∙ rw (a, b)
         over false g l a b = pass _ _ _ _ g (step _ _ valid (halt _ _ _ _ l)) ∙ rw (a, b)
 
-        refuses : (alone : Bool) → refusedIds alone most ids held ≡ false → ltb 65536 (length input) ≡ false → takenFrom input quota ≡ bad n p → outcome alone ≡ bad n p
+        refuses : (alone : Bool) → refused_ids alone most ids held ≡ false → ltb 65536 (length input) ≡ false → taken_from input quota ≡ bad n p → outcome alone ≡ bad n p
         refuses true g l b = step _ _ valid (pass _ _ _ _ l (stop _ _ b))
         refuses false g l b = pass _ _ _ _ g (step _ _ valid (pass _ _ _ _ l (stop _ _ b)))
 
-        crowds : (alone : Bool) → refusedIds alone most ids held ≡ false → ltb 65536 (length input) ≡ false → (ts : List Taken) → takenFrom input quota ≡ good ts
-            → idsFit (length (take (known_of alone held) ids) + roomOf alone most held) rs (named (take (known_of alone held) ids)) ts ≡ bad n p → outcome alone ≡ bad n p
-        crowds true g l ts t i = absurd (good≢bad (sym i ∙ never-many rs (ltb-false _ _ l) ts t))
-        crowds false g l ts t i = pass _ _ _ _ g (step _ _ valid (pass _ _ _ _ l (step _ _ t (stop-before _ _ (sym (same-fit g rs ts) ∙ i)))))
+        crowds : (alone : Bool) → refused_ids alone most ids held ≡ false → ltb 65536 (length input) ≡ false → (ts : List Taken) → taken_from input quota ≡ good ts
+            → ids_fit (length (take (known_of alone held) ids) + room_of alone most held) rs (named (take (known_of alone held) ids)) ts ≡ bad n p → outcome alone ≡ bad n p
+        crowds true g l ts t i = absurd (good≢bad (sym i ∙ never_many rs (ltb-false _ _ l) ts t))
+        crowds false g l ts t i = pass _ _ _ _ g (step _ _ valid (pass _ _ _ _ l (step _ _ t (stop_before _ _ (sym (same_fit g rs ts) ∙ i)))))
 
-    pub messages-refused : (alone : Bool) → refusedIds alone most ids held ≡ false → (f : Refusal) → toldMeasure (answer.Refused f) ≡ measured rs input quota (take (known_of alone held) ids) (roomOf alone most held)
+    pub messages-refused : (alone : Bool) → refused_ids alone most ids held ≡ false → (f : Refusal) → told_measure (answer.Refused f) ≡ measured rs input quota (take (known_of alone held) ids) (room_of alone most held)
         → told (record { answer = answer.Refused f; held = held }) ids next buffer ≡ settled alone most input sheetBytes quota state buffer
     messages-refused alone g f e = refusal alone f (bad-outcome alone g (number_of f.why) f.place e)
 
     module _ (p : Progress) where
       -- measured alone
-      pub measured-alone : {alone : Bool} → alone ≡ true → good p ≡ measured rs input quota (take (known_of alone held) ids) (roomOf alone most held)
+      pub measured-alone : {alone : Bool} → alone ≡ true → good p ≡ measured rs input quota (take (known_of alone held) ids) (room_of alone most held)
           → told (record { answer = answer.Done p; held = held }) ids next buffer ≡ settled alone most input sheetBytes quota state buffer
       unfolding settled measuring
       measured-alone {alone} a e =
-          let f : good p ≡ measured rs input quota (take 0 ids) 1820 = e ∙ ap (λ (b : Bool). measured rs input quota (take (known_of b held) ids) (roomOf b most held)) a in
+          let f : good p ≡ measured rs input quota (take 0 ids) 1820 = e ∙ ap (λ (b : Bool). measured rs input quota (take (known_of b held) ids) (room_of b most held)) a in
           let m = measure rs p (take 0 ids) 1820 f in
-          let o : measuring input sheetBytes quota ≡ good (m.taken, released rs (map messageOf m.taken)) = step _ _ valid (pass _ _ _ _ (le-ltb 65536 (length input) m.short) (step _ _ m.read refl)) in
+          let o : measuring input sheetBytes quota ≡ good (m.taken, released rs (map message_of m.taken)) = step _ _ valid (pass _ _ _ _ (le-ltb 65536 (length input) m.short) (step _ _ m.read refl)) in
           ap (λ (r : Report). (r, state, buffer)) (report-is rs p (take 0 ids) 1820 m ∙ sym (ap (λ (x : Outcome (List Taken × List Entry)). (reported state buffer x).0) o))
           ∙ ap (λ (b : Bool). settled b most input sheetBytes quota state buffer) (sym a)
 
       -- written too
-      module _ (good-ids : badIds most ids held ≡ false) (e : good p ≡ measured rs input quota (take held ids) (most - held)) where
-        pub room-missing : length buffer < p.bytes
+      module _ (good-ids : bad_ids most ids held ≡ false) (e : good p ≡ measured rs input quota (take held ids) (most - held)) where
+        pub room_missing : length buffer < p.bytes
             → told (record { answer = answer.Refused (record { why = Room; place = p.bytes }); held = held }) ids next buffer ≡ settled false most input sheetBytes quota state buffer
         unfolding settled reported
-        room-missing l =
+        room_missing l =
             ap (λ (k : ℕ). told (record { answer = answer.Refused (record { why = Room; place = k }); held = held }) ids next buffer) (sym (long rs p good-ids e))
             ∙ sym (refused-room most input sheetBytes quota state buffer rs (m rs p good-ids e).taken good-ids valid (m rs p good-ids e).short (m rs p good-ids e).read (fit rs p good-ids e) (omega (arith, long rs p good-ids e)))
 
@@ -321,13 +321,13 @@ module _ (input sheetBytes : List ℕ) (quota : ℕ) (ids next : List ℕ) (held
             → told (record { answer = answer.Done p; held = held' }) ids' next' out ≡ settled false most input sheetBytes quota state buffer
         unfolding settled reported holding
         done l ids' next' held' out wrote =
-            let n : wrote.numbers ≡ (numbers rs p good-ids e) = wrote.are (map messageOf (m rs p good-ids e).taken) (part-read rs p good-ids e) in
+            let n : wrote.numbers ≡ (numbers rs p good-ids e) = wrote.are (map message_of (m rs p good-ids e).taken) (part-read rs p good-ids e) in
             let i : ids' ≡ sets ids 0 (map id_of (numbers rs p good-ids e)) = wrote.ids-after ∙ ap (λ (z : List Running). sets ids 0 (map id_of z)) n in
             let x : next' ≡ sets next 0 (map next_of (numbers rs p good-ids e)) = wrote.next-after ∙ ap (λ (z : List Running). sets next 0 (map next_of z)) n in
             let h : held' ≡ length (numbers rs p good-ids e) = wrote.held_after ∙ ap length n in
             let st : state_of ids' next' held' ≡ state_of (sets ids 0 (map id_of (numbers rs p good-ids e))) (sets next 0 (map next_of (numbers rs p good-ids e))) (length (numbers rs p good-ids e)) =
             ap (λ (z : List ℕ). state_of z next' held') i ∙ ap (λ (z : List ℕ). state_of (sets ids 0 (map id_of (numbers rs p good-ids e))) z held') x ∙ ap (state_of (sets ids 0 (map id_of (numbers rs p good-ids e))) (sets next 0 (map next_of (numbers rs p good-ids e)))) h in
-            let b : out ≡ sets buffer 0 (bytes rs p good-ids e) = wrote.bytes (map messageOf (m rs p good-ids e).taken) (part-read rs p good-ids e) in
+            let b : out ≡ sets buffer 0 (bytes rs p good-ids e) = wrote.bytes (map message_of (m rs p good-ids e).taken) (part-read rs p good-ids e) in
             ap (λ (r : Report). (r, state_of ids' next' held', out)) (report-is rs p (take held ids) (most - held) (m rs p good-ids e))
             ∙ ap (λ (s : State). ((reported state buffer (good ((m rs p good-ids e).taken, (es rs p good-ids e)))).0, s, out)) st
             ∙ ap (λ (o : List ℕ). ((reported state buffer (good ((m rs p good-ids e).taken, (es rs p good-ids e)))).0, holding state (numbers rs p good-ids e), o)) b
@@ -335,7 +335,7 @@ module _ (input sheetBytes : List ℕ) (quota : ℕ) (ids next : List ℕ) (held
 
         -- measured from ids alone, as if written from any numbers: the fresh ids are stored behind those known
         module _ (room : p.bytes ≤ length buffer) (fresh : List ℕ) (many : ℕ) (few : many ≤ length fresh)
-            (are : (ts : List Taken) → takenFrom input quota ≡ good ts → map id_of (numbersAfter (named (take held ids)) (released rs (map messageOf ts))) ≡ take held ids ++ take many fresh) where
+            (are : (ts : List Taken) → taken_from input quota ≡ good ts → map id_of (numbers_after (named (take held ids)) (released rs (map message_of ts))) ≡ take held ids ++ take many fresh) where
           abbrev entries : List Entry
           entries = es rs p good-ids e
 
@@ -343,7 +343,7 @@ module _ (input sheetBytes : List ℕ) (quota : ℕ) (ids next : List ℕ) (held
           after-it = numbers rs p good-ids e
 
           ids-are : map id_of after-it ≡ take held ids ++ take many fresh
-          ids-are = after_same (runningIn state) (named (take held ids)) entries (sym (same-ids good-ids)) ∙ are (m rs p good-ids e).taken (m rs p good-ids e).read
+          ids-are = after_same (running_in state) (named (take held ids)) entries (sym (same_ids good-ids)) ∙ are (m rs p good-ids e).taken (m rs p good-ids e).read
 
           stored-behind : sets ids held (take many fresh) ≡ sets ids 0 (take held ids ++ take many fresh)
           stored-behind =
@@ -357,8 +357,8 @@ module _ (input sheetBytes : List ℕ) (quota : ℕ) (ids next : List ℕ) (held
             sets buffer 0 (bytes rs p good-ids e),
             done room (sets ids held (take many fresh)) (sets next 0 (map next_of after-it)) (held + many) (sets buffer 0 (bytes rs p good-ids e)) (record {
               numbers = after-it;
-              are = λ ms q. ap (λ (x : List Message). numbersAfter (runningIn state) (released rs x)) (good-inj (sym (part-read rs p good-ids e) ∙ q));
-              bytes = λ ms q. ap (λ (x : List Message). sets buffer 0 (numberedBytes (runningIn state) (released rs x))) (good-inj (sym (part-read rs p good-ids e) ∙ q));
+              are = λ ms q. ap (λ (x : List Message). numbers_after (running_in state) (released rs x)) (good_inj (sym (part-read rs p good-ids e) ∙ q));
+              bytes = λ ms q. ap (λ (x : List Message). sets buffer 0 (numbered_bytes (running_in state) (released rs x))) (good_inj (sym (part-read rs p good-ids e) ∙ q));
               ids-after = stored-behind ∙ ap (sets ids 0) (sym ids-are);
               next-after = refl;
               held_after = omega (arith, length-map after-it id_of, ap length ids-are, length-append (take held ids) (take many fresh), ids-long good-ids, length-take-le many fresh few);

@@ -4,7 +4,7 @@ use Rattle.std.proofs.lemmas.List.Edits.{sets}
 use Rattle.rules.specs.Bytes.{join}
 use Rattle.rules.specs.Message.{Message}
 use Rattle.rules.specs.Writer.{write}
-use Rattle.rules.specs.Copy.{Entry, copyMessage}
+use Rattle.rules.specs.Copy.{Entry, copy_message}
 
 -- a running number: the sequence number that the next entry with this message id gets
 pub record Running : Type 0 where
@@ -12,31 +12,31 @@ pub record Running : Type 0 where
   pub next : ℕ
 
 -- the number that the next entry with message id x gets: 0 where the id is not held
-unfoldable pub nextNumber : ℕ → List Running → ℕ
-nextNumber x [] = 0
-nextNumber x (n ∷ ns) = elim (eqb x n.id) [ true ↦ n.next | false ↦ nextNumber x ns ]
+unfoldable pub next_number : ℕ → List Running → ℕ
+next_number x [] = 0
+next_number x (n ∷ ns) = elim (eqb x n.id) [ true ↦ n.next | false ↦ next_number x ns ]
 
 -- an entry with message id x is delivered: its number goes on by one, and a new id goes behind the others
-unfoldable pub countedOn : ℕ → List Running → List Running
-countedOn x [] = record { id = x; next = 1 } ∷ []
-countedOn x (n ∷ ns) = elim (eqb x n.id) [
+unfoldable pub counted_on : ℕ → List Running → List Running
+counted_on x [] = record { id = x; next = 1 } ∷ []
+counted_on x (n ∷ ns) = elim (eqb x n.id) [
   | true ↦ record { id = n.id; next = (n.next + 1) % 2 ^ 32 } ∷ ns
-  | false ↦ n ∷ countedOn x ns
+  | false ↦ n ∷ counted_on x ns
 ]
 
 -- the running numbers behind the entries es
-unfoldable pub numbersAfter : List Running → List Entry → List Running
-numbersAfter ns [] = ns
-numbersAfter ns (e ∷ es) = numbersAfter (countedOn e.id ns) es
+unfoldable pub numbers_after : List Running → List Entry → List Running
+numbers_after ns [] = ns
+numbers_after ns (e ∷ es) = numbers_after (counted_on e.id ns) es
 
 -- the copy's messages, numbered on from ns
-unfoldable pub numberedMessages : List Running → List Entry → List Message
-numberedMessages ns [] = []
-numberedMessages ns (e ∷ es) = copyMessage (nextNumber e.id ns) e ∷ numberedMessages (countedOn e.id ns) es
+unfoldable pub numbered_messages : List Running → List Entry → List Message
+numbered_messages ns [] = []
+numbered_messages ns (e ∷ es) = copy_message (next_number e.id ns) e ∷ numbered_messages (counted_on e.id ns) es
 
 -- their bytes
-unfoldable pub numberedBytes : List Running → List Entry → List ℕ
-numberedBytes ns es = join (map write (numberedMessages ns es))
+unfoldable pub numbered_bytes : List Running → List Entry → List ℕ
+numbered_bytes ns es = join (map write (numbered_messages ns es))
 
 -- ids and numbers side by side
 unfoldable pub beside : List ℕ → List ℕ → List Running
@@ -51,8 +51,8 @@ pub record State : Type 0 where
   pub held : ℕ
 
 -- the running numbers of a state: those in its first `held` places
-abbrev pub runningIn : State → List Running
-runningIn state = beside (take state.held state.ids) (take state.held state.next)
+abbrev pub running_in : State → List Running
+running_in state = beside (take state.held state.ids) (take state.held state.next)
 
 abbrev pub id_of : Running → ℕ
 id_of n = n.id

@@ -4,14 +4,14 @@ use Rattle.std.proofs.lemmas.List.Edits.{sets}
 use Rattle.rules.specs.Outcome.{good, bad, PACKAGE}
 use Rattle.rules.specs.Bytes.{put32, part, join}
 use Rattle.rules.specs.Packages as rules
-use Rattle.rules.specs.Packages.{cut, packageOf, piece_of}
+use Rattle.rules.specs.Packages.{cut, package_of, piece_of}
 use Rattle.rules.specs.Items.{items, count}
-use Rattle.rules.specs.Options.{countSaid, differs}
-use Rattle.rules.specs.Message.{recordBits, Message, message}
-use Rattle.rules.specs.Reading.{messageAt}
+use Rattle.rules.specs.Options.{count_said, differs}
+use Rattle.rules.specs.Message.{record_bits, Message, message}
+use Rattle.rules.specs.Reading.{message_at}
 use Rattle.rules.specs.Sheet as rows
-use Rattle.rules.specs.Copy.{granted, grantedPackages, released}
-use Rattle.wire.specs.Bits.{bitAt, withBit}
+use Rattle.rules.specs.Copy.{granted, granted_packages, released}
+use Rattle.wire.specs.Bits.{bit_at, with_bit}
 use Rattle.refusal.specs.declared.Why.TheVariants as why
 use Rattle.refusal.specs.declared.Why.TheVariants.{Ids}
 use Rattle.message.specs.declared.Header.{Header}
@@ -19,7 +19,7 @@ use Rattle.message.specs.declared.Package.{Package}
 use Rattle.message.specs.declared.Message as found
 use Rattle.message.specs.declared.MessageRead.{MessageRead}
 use Rattle.message.specs.declared.MessageRead.TheVariants as read
-use Rattle.message.specs.Answers.{toldMessage, payloadFrom, next_from}
+use Rattle.message.specs.Answers.{told_message, payload_from, next_from}
 use Rattle.numbered.specs.declared.Size.{Size}
 use Rattle.numbered.specs.declared.Walked.{Walked}
 use Rattle.numbered.specs.declared.MessageTaken.{MessageTaken}
@@ -31,49 +31,49 @@ use Rattle.numbered.specs.declared.Answer.{Answer}
 use Rattle.numbered.specs.declared.Answer.TheVariants as answer
 use Rattle.numbered.specs.declared.Seats.{Seats}
 use Rattle.numbered.specs.declared.Reached.{Reached}
-use Rattle.numbered.specs.Quota.{badIds, mostEntries}
-use Rattle.numbered.specs.Numbering.{Running, countedOn, numbersAfter, numberedBytes, beside, id_of, next_of}
+use Rattle.numbered.specs.Quota.{bad_ids, most_entries}
+use Rattle.numbered.specs.Numbering.{Running, counted_on, numbers_after, numbered_bytes, beside, id_of, next_of}
 
 -- a message with this header: a grant depends on its id, its time and its flag bit 3 alone
-abbrev pub messageBy : Header → Message
-messageBy h = record { flags = recordBits h.flags; id = h.id.0; sequence = 0; seconds = h.seconds; nanos = h.nanos; options = []; packages = [] }
+abbrev pub message_by : Header → Message
+message_by h = record { flags = record_bits h.flags; id = h.id.0; sequence = 0; seconds = h.seconds; nanos = h.nanos; options = []; packages = [] }
 
 -- the granted packages among the pieces cs of message m
 unfoldable pub kept : List rows.Row → Message → List (List ℕ) → List rules.Package
-kept rs m cs = grantedPackages rs m (map packageOf cs)
+kept rs m cs = granted_packages rs m (map package_of cs)
 
 -- the bytes of packages, one behind the other
-abbrev pub payloadOf : List rules.Package → List ℕ
-payloadOf ps = join (map piece_of ps)
+abbrev pub payload_of : List rules.Package → List ℕ
+payload_of ps = join (map piece_of ps)
 
 -- one package more, if it is granted
-abbrev pub withPackage : Size → ℕ → Bool → Size
-withPackage s n true = record { bytes = s.bytes + n; packages = s.packages + 1 }
-withPackage s n false = s
+abbrev pub with_package : Size → ℕ → Bool → Size
+with_package s n true = record { bytes = s.bytes + n; packages = s.packages + 1 }
+with_package s n false = s
 
 -- r is the size of what is granted of a run that can be cut
 pub record Sized (rs : List rows.Row) (m : Message) (run : List ℕ) (r : Size) : Type 0 where
   pub small : r.bytes ≤ length run
   pub few : r.packages ≤ length run
-  pub right : (cs : List (List ℕ)) → cut 0 run ≡ good cs → (r.bytes ≡ length (payloadOf (kept rs m cs))) × (r.packages ≡ length (kept rs m cs))
+  pub right : (cs : List (List ℕ)) → cut 0 run ≡ good cs → (r.bytes ≡ length (payload_of (kept rs m cs))) × (r.packages ≡ length (kept rs m cs))
 
 -- of each piece of message m, whether it is granted
 unfoldable pub flags_of : List rows.Row → Message → List (List ℕ) → List Bool
-flags_of rs m cs = map (λ c. granted rs m (packageOf c)) cs
+flags_of rs m cs = map (λ c. granted rs m (package_of c)) cs
 
 -- the same for all packages of messages, one behind the other
-unfoldable pub flagsIn : List rows.Row → List Message → List Bool
-flagsIn rs [] = []
-flagsIn rs (m ∷ ms) = map (granted rs m) m.packages ++ flagsIn rs ms
+unfoldable pub flags_in : List rows.Row → List Message → List Bool
+flags_in rs [] = []
+flags_in rs (m ∷ ms) = map (granted rs m) m.packages ++ flags_in rs ms
 
 -- bits tell flags: bit i is flag i, and behind the last all are 0
 pub record Tells (marks : List ℕ) (fs : List Bool) : Type 0 where
-  pub each : (i : ℕ) → i < length fs → eqb (bitAt marks i) 1 ≡ get_or fs i false
-  pub rest : (i : ℕ) → length fs ≤ i → bitAt marks i ≡ 0
+  pub each : (i : ℕ) → i < length fs → eqb (bit_at marks i) 1 ≡ get_or fs i false
+  pub rest : (i : ℕ) → length fs ≤ i → bit_at marks i ≡ 0
 
 -- bits tell of each package of an input that passes whether it is granted
 pub record Marked (rs : List rows.Row) (input marks : List ℕ) : Type 0 where
-  pub tells : (ms : List Message) → items message 0 0 input ≡ good ms → Tells marks (flagsIn rs ms)
+  pub tells : (ms : List Message) → items message 0 0 input ≡ good ms → Tells marks (flags_in rs ms)
 
 -- r walked over these pieces of a run, which are all of it if it comes to its end; otherwise no package stands there. It says what is granted of them, and behind
 -- the flags that were marked before stand theirs
@@ -85,19 +85,19 @@ pub record WalkedOver (rs : List rows.Row) (m : Message) (run marks marks' : Lis
   pub many : r.all ≡ length pieces
   pub whole : length run ≤ r.end → cut 0 run ≡ good pieces
   pub broken : r.end < length run → cut 0 run ≡ bad PACKAGE r.end
-  pub bytes : r.size.bytes ≡ length (payloadOf (kept rs m pieces))
+  pub bytes : r.size.bytes ≡ length (payload_of (kept rs m pieces))
   pub packages : r.size.packages ≡ length (kept rs m pieces)
   pub marked : (fs : List Bool) → length fs ≡ first → Tells marks fs → Tells marks' (fs ++ flags_of rs m pieces)
 
 -- the message, once its packages were walked over: that they end before its payload does, or are not as many as it says, is told here
-abbrev pub finishedBy : Bool → Bool → ℕ → Header → Walked → MessageTaken
-finishedBy true c at h w = taking.Refused (record { why = why.Package; place = payloadFrom at h + w.end })
-finishedBy false true at h w = taking.Refused (record { why = why.Count; place = at })
-finishedBy false false at h w = taking.Message (record { header = h; payload = payloadFrom at h; next = next_from at h; packages = w.all }) w.size
+abbrev pub finished_by : Bool → Bool → ℕ → Header → Walked → MessageTaken
+finished_by true c at h w = taking.Refused (record { why = why.Package; place = payload_from at h + w.end })
+finished_by false true at h w = taking.Refused (record { why = why.Count; place = at })
+finished_by false false at h w = taking.Message (record { header = h; payload = payload_from at h; next = next_from at h; packages = w.all }) w.size
 
 abbrev pub finished : List ℕ → ℕ → Header → Walked → MessageTaken
 finished input at h w =
-    finishedBy (ltb w.end (next_from at h - payloadFrom at h)) (differs (countSaid (take (at + 24 + h.run - (at + 24)) (drop (at + 24) input))) w.all) at h w
+    finished_by (ltb w.end (next_from at h - payload_from at h)) (differs (count_said (take (at + 24 + h.run - (at + 24)) (drop (at + 24) input))) w.all) at h w
 
 -- what was read, whatever is granted of it
 abbrev pub read_of : MessageTaken → MessageRead
@@ -110,10 +110,10 @@ run_of input m = take (m.next - m.payload) (drop m.payload input)
 
 -- s is what is granted of message m, and the flags of its packages stand behind those that were marked before
 pub record Measured (rs : List rows.Row) (input marks marks' : List ℕ) (first : ℕ) (m : found.Message) (s : Size) : Type 0 where
-  pub sized : Sized rs (messageBy m.header) (run_of input m) s
+  pub sized : Sized rs (message_by m.header) (run_of input m) s
   pub many : (cs : List (List ℕ)) → cut 0 (run_of input m) ≡ good cs → m.packages ≡ length cs
   pub marked : (cs : List (List ℕ)) → cut 0 (run_of input m) ≡ good cs → (fs : List Bool) → length fs ≡ first → Tells marks fs
-      → Tells marks' (fs ++ flags_of rs (messageBy m.header) cs)
+      → Tells marks' (fs ++ flags_of rs (message_by m.header) cs)
 
 abbrev pub MeasuredIn : List rows.Row → List ℕ → List ℕ → List ℕ → ℕ → MessageTaken → Type 0
 MeasuredIn rs input marks marks' first (taking.Message m s) = Measured rs input marks marks' first m s
@@ -121,7 +121,7 @@ MeasuredIn rs input marks marks' first (taking.Refused f) = Unit {0}
 
 -- the message at this place is read and measured
 pub record Took (rs : List rows.Row) (input : List ℕ) (at : ℕ) (marks marks' : List ℕ) (first : ℕ) (r : MessageTaken) : Type 0 where
-  pub told : toldMessage (read_of r) ≡ messageAt input at
+  pub told : told_message (read_of r) ≡ message_at input at
   pub measured : MeasuredIn rs input marks marks' first r
 
 -- one message more, if something of it is granted
@@ -129,12 +129,12 @@ abbrev pub entered : Totals → Size → Bool → Totals
 entered t s true = t
 entered t s false = record { bytes = t.bytes + 24 + s.bytes; messages = t.messages + 1; packages = t.packages + s.packages }
 
-abbrev pub withEntry : Totals → Size → Totals
-withEntry t s = entered t s (eqb s.packages 0)
+abbrev pub with_entry : Totals → Size → Totals
+with_entry t s = entered t s (eqb s.packages 0)
 
 -- the bytes of package p, which stands at the start of run, reserved byte and padding zero
-unfoldable pub pieceAs : List ℕ → Package → List ℕ
-pieceAs run p = take 6 run ++ (0 ∷ part 7 p.to run) ++ replicate (p.next - p.to) 0
+unfoldable pub piece_as : List ℕ → Package → List ℕ
+piece_as run p = take 6 run ++ (0 ∷ part 7 p.to run) ++ replicate (p.next - p.to) 0
 
 -- the numbers of p, which stands at the start of run, are in order
 pub record Placed (run : List ℕ) (p : Package) : Type 0 where
@@ -156,17 +156,17 @@ pub record Stored (before after : List ℕ) (at next : ℕ) (granted : Bool) (pi
 -- the packages of pieces that are marked, the first by the mark `first`
 unfoldable pub picked : List ℕ → ℕ → List (List ℕ) → List rules.Package
 picked marks first [] = []
-picked marks first (c ∷ cs) = elim (eqb (bitAt marks first) 1) [ true ↦ packageOf c ∷ picked marks (first + 1) cs | false ↦ picked marks (first + 1) cs ]
+picked marks first (c ∷ cs) = elim (eqb (bit_at marks first) 1) [ true ↦ package_of c ∷ picked marks (first + 1) cs | false ↦ picked marks (first + 1) cs ]
 
 -- of a run that can be cut the packages that `keep` keeps are stored; r says their bytes, and how many packages the run has
 pub record StoredRun (keep : List (List ℕ) → List rules.Package) (run before after : List ℕ) (at : ℕ) (r : Kept) : Type 0 where
   pub small : r.bytes ≤ length run
   pub few : r.all ≤ length run
-  pub right : (cs : List (List ℕ)) → cut 0 run ≡ good cs → (r.bytes ≡ length (payloadOf (keep cs))) × (after ≡ sets before at (payloadOf (keep cs))) × (r.all ≡ length cs)
+  pub right : (cs : List (List ℕ)) → cut 0 run ≡ good cs → (r.bytes ≡ length (payload_of (keep cs))) × (after ≡ sets before at (payload_of (keep cs))) × (r.all ≡ length cs)
 
 -- the header of a message of the copy
-unfoldable pub headBytes : Header → ℕ → ℕ → List ℕ
-headBytes h n size =
+unfoldable pub head_bytes : Header → ℕ → ℕ → List ℕ
+head_bytes h n size =
     16 ∷ 0 ∷ 0 ∷ (192 + h.flags / 2 % 8 * 2) ∷ put32 h.id.0 (put32 n (put32 size (put32 h.seconds (put32 h.nanos []))))
 
 -- x stands at place r of l, or nowhere, and r is l's length
@@ -176,28 +176,28 @@ pub record Place (l : List ℕ) (x r : ℕ) : Type 0 where
   pub miss : r ≡ length l → count x l ≡ 0
 
 -- where an id's bit stands
-abbrev pub slotOf : ℕ → ℕ
-slotOf id = id % 4096
+abbrev pub slot_of : ℕ → ℕ
+slot_of id = id % 4096
 
 -- an id whose bit is not set is none of these
 pub record Sees (seen ids : List ℕ) : Type 0 where
-  pub none : (x : ℕ) → bitAt seen (slotOf x) ≡ 0 → count x ids ≡ 0
+  pub none : (x : ℕ) → bit_at seen (slot_of x) ≡ 0 → count x ids ≡ 0
 
 -- how many ids are held with the one at this place: one more, if it is the place behind them
-abbrev pub oneMore : ℕ → Bool → ℕ
-oneMore held true = held + 1
-oneMore held false = held
+abbrev pub one_more : ℕ → Bool → ℕ
+one_more held true = held + 1
+one_more held false = held
 
-abbrev pub heldWith : ℕ → ℕ → ℕ
-heldWith held place = oneMore held (eqb place held)
+abbrev pub held_with : ℕ → ℕ → ℕ
+held_with held place = one_more held (eqb place held)
 
 -- the number that the id at this place gets next: 0 for a new one, whose place is behind those held
-abbrev pub numberFor : List ℕ → ℕ → Bool → ℕ
-numberFor next place true = 0
-numberFor next place false = get_or next place 0
+abbrev pub number_for : List ℕ → ℕ → Bool → ℕ
+number_for next place true = 0
+number_for next place false = get_or next place 0
 
 abbrev pub number_at : List ℕ → ℕ → ℕ → ℕ
-number_at next place held = numberFor next place (eqb place held)
+number_at next place held = number_for next place (eqb place held)
 
 -- the ids held, each once, leave room for this one, and each has its bit
 pub record Ready (ids next seen : List ℕ) (held id : ℕ) : Type 0 where
@@ -213,15 +213,15 @@ pub record Ready (ids next seen : List ℕ) (held id : ℕ) : Type 0 where
 pub record Entered (h : Header) (bytes : ℕ) (before after ids ids' next next' : List ℕ) (done r : Reached) : Type 0 where
   pub place : ℕ
   pub spot : Place (take done.held ids) h.id.0 place
-  pub head : after ≡ sets before done.to (headBytes h (number_at next place done.held) (24 + bytes))
+  pub head : after ≡ sets before done.to (head_bytes h (number_at next place done.held) (24 + bytes))
   pub named : ids' ≡ set ids place h.id.0
   pub counted : next' ≡ set next place ((number_at next place done.held + 1) % 2 ^ 32)
-  pub reached : r ≡ record { to = done.to + (24 + bytes); held = heldWith done.held place }
+  pub reached : r ≡ record { to = done.to + (24 + bytes); held = held_with done.held place }
 
 -- a message whose granted packages take so many bytes: without one nothing changes
 pub record Delivered (h : Header) (bytes : ℕ) (before after ids ids' next next' seen seen' : List ℕ) (done r : Reached) : Type 0 where
   pub none : bytes ≡ 0 → (after ≡ before) × (ids' ≡ ids) × (next' ≡ next) × (seen' ≡ seen) × (r ≡ done)
-  pub bit : (bytes ≡ 0 → ⊥) → seen' ≡ withBit seen (slotOf h.id.0)
+  pub bit : (bytes ≡ 0 → ⊥) → seen' ≡ with_bit seen (slot_of h.id.0)
   pub one : (bytes ≡ 0 → ⊥) → Entered h bytes before after ids ids' next next' done r
 
 -- input passes, and ids and numbers have room for all that it delivers
@@ -232,15 +232,15 @@ pub record Roomy (rs : List rows.Row) (input ids next : List ℕ) (held : ℕ) :
   pub once : (x : ℕ) → count x (take held ids) ≤ 1
   pub messages : List Message
   pub read : items message 0 0 input ≡ good messages
-  pub ids-room : length (numbersAfter (beside (take held ids) (take held next)) (released rs messages)) ≤ length ids
-  pub next-room : length (numbersAfter (beside (take held ids) (take held next)) (released rs messages)) ≤ length next
-  pub few : length (numbersAfter (beside (take held ids) (take held next)) (released rs messages)) ≤ 65536
+  pub ids-room : length (numbers_after (beside (take held ids) (take held next)) (released rs messages)) ≤ length ids
+  pub next-room : length (numbers_after (beside (take held ids) (take held next)) (released rs messages)) ≤ length next
+  pub few : length (numbers_after (beside (take held ids) (take held next)) (released rs messages)) ≤ 65536
 
 -- the copy of input is stored, numbered on, and the numbers after it are held
 pub record Wrote (rs : List rows.Row) (input ids ids' next next' : List ℕ) (held r : ℕ) (before after : List ℕ) : Type 0 where
   pub numbers : List Running
-  pub are : (ms : List Message) → items message 0 0 input ≡ good ms → numbers ≡ numbersAfter (beside (take held ids) (take held next)) (released rs ms)
-  pub bytes : (ms : List Message) → items message 0 0 input ≡ good ms → after ≡ sets before 0 (numberedBytes (beside (take held ids) (take held next)) (released rs ms))
+  pub are : (ms : List Message) → items message 0 0 input ≡ good ms → numbers ≡ numbers_after (beside (take held ids) (take held next)) (released rs ms)
+  pub bytes : (ms : List Message) → items message 0 0 input ≡ good ms → after ≡ sets before 0 (numbered_bytes (beside (take held ids) (take held next)) (released rs ms))
   pub ids-after : ids' ≡ sets ids 0 (map id_of numbers)
   pub next-after : next' ≡ sets next 0 (map next_of numbers)
   pub held_after : r ≡ length numbers
@@ -256,8 +256,8 @@ named (x ∷ l) = record { id = x; next = 0 } ∷ named l
 
 -- an id of a message at place k that is delivered: it is known, or among the fresh ones, or it is seated behind them, if there is room for it
 pub record Sat (known fresh fresh' : List ℕ) (seats r : Seats) (room id k : ℕ) (ns : List Running) : Type 0 where
-  pub many : length known + r.many ≡ length (countedOn id ns)
-  pub ids : r.many ≤ room → map id_of (countedOn id ns) ≡ known ++ take r.many fresh'
+  pub many : length known + r.many ≡ length (counted_on id ns)
+  pub ids : r.many ≤ room → map id_of (counted_on id ns) ≡ known ++ take r.many fresh'
   pub over : room < r.many → r.over ≡ k
 
 -- the ids with that of one message more, which has so many granted packages. Without one nothing changes; nor where the ids are too many already, or cannot become so
@@ -273,25 +273,25 @@ abbrev pub known_of : Bool → ℕ → ℕ
 known_of true held = 0
 known_of false held = held
 
-abbrev pub roomOf : Bool → ℕ → ℕ → ℕ
-roomOf true most held = mostEntries
-roomOf false most held = most - held
+abbrev pub room_of : Bool → ℕ → ℕ → ℕ
+room_of true most held = most_entries
+room_of false most held = most - held
 
 -- most ids may be held in so many places: as many as an input can bring more than those held, or 64 at most
 pub record Most (places held most : ℕ) : Type 0 where
   pub inside : most ≤ places
-  pub wide : 64 < most - held → mostEntries ≤ most - held
-  pub small : most ≤ mostEntries
+  pub wide : 64 < most - held → most_entries ≤ most - held
+  pub small : most ≤ most_entries
 
 -- ids that cannot be held, where it is not measured alone
-abbrev pub refusedIds : Bool → ℕ → List ℕ → ℕ → Bool
-refusedIds true most ids held = false
-refusedIds false most ids held = badIds most ids held
+abbrev pub refused_ids : Bool → ℕ → List ℕ → ℕ → Bool
+refused_ids true most ids held = false
+refused_ids false most ids held = bad_ids most ids held
 
 -- the answer once all is measured: IDS, if the ids are too many
-abbrev pub judgedBy : Progress → Seats → Bool → Answer
-judgedBy p seats true = answer.Refused (record { why = Ids; place = seats.over })
-judgedBy p seats false = answer.Done p
+abbrev pub judged_by : Progress → Seats → Bool → Answer
+judged_by p seats true = answer.Refused (record { why = Ids; place = seats.over })
+judged_by p seats false = answer.Done p
 
-abbrev pub judgedAs : Progress → Seats → ℕ → Answer
-judgedAs p seats room = judgedBy p seats (ltb room seats.many)
+abbrev pub judged_as : Progress → Seats → ℕ → Answer
+judged_as p seats room = judged_by p seats (ltb room seats.many)

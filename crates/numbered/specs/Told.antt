@@ -1,9 +1,9 @@
 -- What measuring and copying tell.
 use Rattle.std.specs.Prelude.{ℕ, ◌+◌, ◌≤◌, ◌≡◌, Bool, List, [], ◌++◌, map, length, take}
 use Rattle.rules.specs.Outcome.{Outcome, good, ◌>>◌, ◌>>=◌}
-use Rattle.rules.specs.Message.{notLarge}
+use Rattle.rules.specs.Message.{not_large}
 use Rattle.rules.specs.Sheet as rows
-use Rattle.rules.specs.Copy.{Entry, released, packagesIn}
+use Rattle.rules.specs.Copy.{Entry, released, packages_in}
 use Rattle.refusal.specs.Numbers.{number_of, refused}
 use Rattle.numbered.specs.declared.Totals.{Totals}
 use Rattle.numbered.specs.declared.Progress.{Progress}
@@ -11,13 +11,13 @@ use Rattle.numbered.specs.declared.Answer.{Answer}
 use Rattle.numbered.specs.declared.Answer.TheVariants as answer
 use Rattle.numbered.specs.declared.Numbered.{Numbered}
 use Rattle.numbered.specs.declared.Counted.{Counted}
-use Rattle.numbered.specs.Numbering.{numbersAfter, numberedBytes, State, id_of}
-use Rattle.numbered.specs.Quota.{Taken, takenFrom, messageOf, bytesTaken, idsFit, Report, settled, measuredIds}
-use Rattle.numbered.specs.Parts.{named, flagsIn, Tells}
+use Rattle.numbered.specs.Numbering.{numbers_after, numbered_bytes, State, id_of}
+use Rattle.numbered.specs.Quota.{Taken, taken_from, message_of, bytes_taken, ids_fit, Report, settled, measured_ids}
+use Rattle.numbered.specs.Parts.{named, flags_in, Tells}
 
 -- what the copy of a released list takes: its bytes do not depend on the numbers
 abbrev pub totals : List Entry → Totals
-totals es = record { bytes = length (numberedBytes [] es); messages = length es; packages = packagesIn es }
+totals es = record { bytes = length (numbered_bytes [] es); messages = length es; packages = packages_in es }
 
 abbrev pub progress : ℕ → ℕ → Totals → Progress
 progress handled consumed t = record { handled = handled; consumed = consumed; bytes = t.bytes; messages = t.messages; packages = t.packages }
@@ -25,27 +25,27 @@ progress handled consumed t = record { handled = handled; consumed = consumed; b
 -- what is taken and written, where these ids are known and there is room for so many more
 unfoldable pub measured : List rows.Row → List ℕ → ℕ → List ℕ → ℕ → Outcome Progress
 measured rs input quota known room = do
-  notLarge input
-  ts ← takenFrom input quota
-  idsFit (length known + room) rs (named known) ts
-  good (progress (length ts) (bytesTaken ts) (totals (released rs (map messageOf ts))))
+  not_large input
+  ts ← taken_from input quota
+  ids_fit (length known + room) rs (named known) ts
+  good (progress (length ts) (bytes_taken ts) (totals (released rs (map message_of ts))))
 
-abbrev pub toldMeasure : Answer → Outcome Progress
-toldMeasure (answer.Done p) = good p
-toldMeasure (answer.Refused f) = refused f
+abbrev pub told_measure : Answer → Outcome Progress
+told_measure (answer.Done p) = good p
+told_measure (answer.Refused f) = refused f
 
 -- where it is done, bits tell of each package that is taken whether it is granted
 pub record MarkedBy (rs : List rows.Row) (input : List ℕ) (quota : ℕ) (marks : List ℕ) (r : Answer) : Type 0 where
-  pub tells : (p : Progress) → r ≡ answer.Done p → (ts : List Taken) → takenFrom input quota ≡ good ts → Tells marks (flagsIn rs (map messageOf ts))
+  pub tells : (p : Progress) → r ≡ answer.Done p → (ts : List Taken) → taken_from input quota ≡ good ts → Tells marks (flags_in rs (map message_of ts))
 
 -- r tells what is measured; where it is done and all ids were counted, the fresh ones are so many, and stand first
 pub record Counts (rs : List rows.Row) (input : List ℕ) (quota : ℕ) (known : List ℕ) (room : ℕ) (fresh marks : List ℕ) (r : Counted) : Type 0 where
   pub marked : MarkedBy rs input quota marks r.answer
-  pub told : toldMeasure r.answer ≡ measured rs input quota known room
+  pub told : told_measure r.answer ≡ measured rs input quota known room
   pub small : (p : Progress) → r.answer ≡ answer.Done p → p.bytes ≤ 65536
   pub few : (p : Progress) → r.answer ≡ answer.Done p → r.many ≤ room
-  pub ids : (p : Progress) → r.answer ≡ answer.Done p → room ≤ 64 → (ts : List Taken) → takenFrom input quota ≡ good ts
-      → map id_of (numbersAfter (named known) (released rs (map messageOf ts))) ≡ known ++ take r.many fresh
+  pub ids : (p : Progress) → r.answer ≡ answer.Done p → room ≤ 64 → (ts : List Taken) → taken_from input quota ≡ good ts
+      → map id_of (numbers_after (named known) (released rs (map message_of ts))) ≡ known ++ take r.many fresh
 
 -- an answer's numbers
 abbrev pub report : Answer → Report
@@ -60,12 +60,12 @@ abbrev pub told : Numbered → List ℕ → List ℕ → List ℕ → Report × 
 told r ids next s = (report r.answer, state_of ids next r.held, s)
 
 -- with the ids after it
-abbrev pub toldIds : Numbered → List ℕ → Report × List ℕ × ℕ
-toldIds r ids = (report r.answer, ids, r.held)
+abbrev pub told_ids : Numbered → List ℕ → Report × List ℕ × ℕ
+told_ids r ids = (report r.answer, ids, r.held)
 
 -- x is what is measured under these rows, whatever the sheet is that has them
 pub record MeasuredIds (rs : List rows.Row) (most : ℕ) (input : List ℕ) (quota : ℕ) (ids : List ℕ) (held : ℕ) (x : Report × List ℕ × ℕ) : Type 0 where
-  pub right : (sheetBytes : List ℕ) → rows.sheet sheetBytes ≡ good rs → x ≡ measuredIds most input sheetBytes quota ids held
+  pub right : (sheetBytes : List ℕ) → rows.sheet sheetBytes ≡ good rs → x ≡ measured_ids most input sheetBytes quota ids held
 
 -- x is the copy under these rows, whatever the sheet is that has them
 pub record Copied (rs : List rows.Row) (alone : Bool) (most : ℕ) (input : List ℕ) (quota : ℕ) (before : State) (buffer : List ℕ) (x : Report × State × List ℕ) : Type 0 where

@@ -5,11 +5,11 @@ ghost use Rattle.std.specs.Prelude.{◌≡◌, [], false, ◌+◌, ◌-◌, ◌*
 ghost use Rattle.std.proofs.lemmas.List.Edits.{sets};
 ghost use Rattle.rules.specs.Bytes.{put32};
 ghost use Rattle.rules.specs.Items.{count};
-ghost use Rattle.message.specs.Answers.{payloadFrom, next_from};
-ghost use Rattle.sheet.specs.Table.{rowsIn};
-ghost use Rattle.numbered.specs.Quota.{badIds, someTwice, settled, measuredIds, shorter, mostIn};
-ghost use Rattle.numbered.specs.Parts.{messageBy, WalkedOver, finished, Took, withPackage, withEntry, Placed, pieceAs, Stored, StoredRun, picked, headBytes, Place, Sees, slotOf, heldWith, number_at, Ready, Delivered, Roomy, Wrote, Tells, Marked, Single, Seated, judgedAs, known_of, roomOf, Most, refusedIds};
-ghost use Rattle.numbered.specs.Told.{progress, toldMeasure, measured, Counts, MarkedBy, state_of, told, toldIds, MeasuredIds, Copied};
+ghost use Rattle.message.specs.Answers.{payload_from, next_from};
+ghost use Rattle.sheet.specs.Table.{rows_in};
+ghost use Rattle.numbered.specs.Quota.{bad_ids, some_twice, settled, measured_ids, shorter, most_in};
+ghost use Rattle.numbered.specs.Parts.{message_by, WalkedOver, finished, Took, with_package, with_entry, Placed, piece_as, Stored, StoredRun, picked, head_bytes, Place, Sees, slot_of, held_with, number_at, Ready, Delivered, Roomy, Wrote, Tells, Marked, Single, Seated, judged_as, known_of, room_of, Most, refused_ids};
+ghost use Rattle.numbered.specs.Told.{progress, told_measure, measured, Counts, MarkedBy, state_of, told, told_ids, MeasuredIds, Copied};
 
 use message::{
     Count, Header, Message, Package, PackageRead, front_run, header_in, miscounts, package_at,
@@ -29,7 +29,7 @@ struct Size {
 // One package more, of n bytes, if it is granted.
 fn with_package(s: Size, n: usize, granted: bool) -> Size
     requires { (s.bytes ≤ 65536) × (s.packages ≤ 65536) × (n ≤ 65536) }
-    ensures { result ≡ withPackage s n granted }
+    ensures { result ≡ with_package s n granted }
 {
     if granted {
         return Size {
@@ -60,7 +60,7 @@ fn measure_packages(
     first: usize,
 ) -> Walked
     requires { (12 * first + length run.now ≤ 65536) × (length table.now ≤ 224) × (length near.old ≡ 128) × (length marks.old ≡ 683) }
-    ensures { WalkedOver (rowsIn table.now) (messageBy h) run.now marks.old marks.new first result }
+    ensures { WalkedOver (rows_in table.now) (message_by h) run.now marks.old marks.new first result }
 {
     let many = near_rows(table, source_of(h), near);
     let mut size = Size {
@@ -97,7 +97,7 @@ enum MessageTaken {
 
 // The checks that are left once the packages of a message were walked over: that they fill its payload, and are as many as it says.
 fn finish_message(input: &[u8], at: usize, h: Header, w: Walked) -> MessageTaken
-    requires { (length input.now ≤ 65536) × (payloadFrom at h ≤ next_from at h) × (next_from at h ≤ length input.now) × (at + 24 + h.run ≤ length input.now) × (w.end ≤ 65536) }
+    requires { (length input.now ≤ 65536) × (payload_from at h ≤ next_from at h) × (next_from at h ≤ length input.now) × (at + 24 + h.run ≤ length input.now) × (w.end ≤ 65536) }
     ensures { result ≡ finished input.now at h w }
 {
     let payload = at + (24 + 4 * h.words as usize);
@@ -138,7 +138,7 @@ fn take_message(
     first: usize,
 ) -> MessageTaken
     requires { (length input.now ≤ 65536) × (12 * first ≤ at) × (length table.now ≤ 224) × (length near.old ≡ 128) × (length marks.old ≡ 683) }
-    ensures { Took (rowsIn table.now) input.now at marks.old marks.new first result }
+    ensures { Took (rows_in table.now) input.now at marks.old marks.new first result }
 {
     let found = front_run(input, at);
     match found {
@@ -164,7 +164,7 @@ struct Totals {
 // One message more, if it has a granted package.
 fn with_entry(t: Totals, s: Size) -> Totals
     requires { (t.bytes ≤ 65536) × (t.messages ≤ 65536) × (t.packages ≤ 65536) × (s.bytes ≤ 65536) × (s.packages ≤ 65536) }
-    ensures { result ≡ withEntry t s }
+    ensures { result ≡ with_entry t s }
 {
     if s.packages == 0 {
         return t;
@@ -272,7 +272,7 @@ fn seat(
 
 // The answer once all is measured: the ids are too many, or all is done.
 fn judged(p: Progress, seats: Seats, room: usize) -> Answer
-    ensures { result ≡ judgedAs p seats room }
+    ensures { result ≡ judged_as p seats room }
 {
     if room < seats.many {
         return Answer::Refused(Refusal {
@@ -291,7 +291,7 @@ struct Counted {
 }
 
 fn count_of(p: Progress, seats: Seats, room: usize) -> Counted
-    ensures { result ≡ record { answer = judgedAs p seats room; many = seats.many } }
+    ensures { result ≡ record { answer = judged_as p seats room; many = seats.many } }
 {
     Counted {
         answer: judged(p, seats, room),
@@ -320,7 +320,7 @@ fn count_messages(
     marks: &mut [u8],
 ) -> Counted
     requires { (length known.now ≤ 65536) × Single known.now × (64 < room → 1820 ≤ room) × (length fresh.old ≡ 64) × (length table.now ≤ 224) × (length marks.old ≡ 683) × Tells marks.old [] }
-    ensures { Counts (rowsIn table.now) input.now quota known.now room fresh.new marks.new result }
+    ensures { Counts (rows_in table.now) input.now quota known.now room fresh.new marks.new result }
 {
     if 65536 < input.len() {
         return refused_count(Refusal {
@@ -371,7 +371,7 @@ fn measure_messages(
     marks: &mut [u8],
 ) -> Answer
     requires { (length known.now ≤ 65536) × Single known.now × (64 < room → 1820 ≤ room) × (length table.now ≤ 224) × (length marks.old ≡ 683) × Tells marks.old [] }
-    ensures { (toldMeasure result ≡ measured (rowsIn table.now) input.now quota known.now room) × MarkedBy (rowsIn table.now) input.now quota marks.new result }
+    ensures { (told_measure result ≡ measured (rows_in table.now) input.now quota known.now room) × MarkedBy (rows_in table.now) input.now quota marks.new result }
 {
     let mut fresh = [0u32; 64];
     let counted = count_messages(input, table, quota, known, room, &mut fresh, marks);
@@ -390,7 +390,7 @@ fn put_words(out: &mut [u8], at: usize, first: u32, second: u32)
 // Stores package p, which stands at the start of a run, from `at` on, reserved byte and padding zero.
 fn write_package(run: &[u8], p: Package, out: &mut [u8], at: usize)
     requires { (at ≤ 262144) × Placed run.now p }
-    ensures { out.new ≡ sets out.old at (pieceAs run.now p) }
+    ensures { out.new ≡ sets out.old at (piece_as run.now p) }
 {
     let content = p.to;
     let size = p.next;
@@ -405,7 +405,7 @@ fn write_package(run: &[u8], p: Package, out: &mut [u8], at: usize)
 // Stores it, if it is granted, and says where the next one goes.
 fn write_granted(run: &[u8], p: Package, granted: bool, out: &mut [u8], at: usize) -> usize
     requires { (at ≤ 196608) × Placed run.now p }
-    ensures { Stored out.old out.new at result granted (pieceAs run.now p) p.next }
+    ensures { Stored out.old out.new at result granted (piece_as run.now p) p.next }
 {
     if granted {
         write_package(run, p, out, at);
@@ -451,7 +451,7 @@ fn write_packages(run: &[u8], marks: &[u8], first: usize, out: &mut [u8], to: us
 // One id more is held, if it has the place behind those held.
 fn held_with(held: usize, place: usize) -> usize
     requires { held ≤ 65536 }
-    ensures { result ≡ heldWith held place }
+    ensures { result ≡ held_with held place }
 {
     if place == held {
         return held + 1;
@@ -462,7 +462,7 @@ fn held_with(held: usize, place: usize) -> usize
 // Stores the header of a message of the copy.
 fn write_head(out: &mut [u8], at: usize, h: Header, sequence: u32, size: u32)
     requires { at ≤ 65536 }
-    ensures { out.new ≡ sets out.old at (headBytes h sequence size) }
+    ensures { out.new ≡ sets out.old at (head_bytes h sequence size) }
 {
     // Version 1 and no options, two zeros and the flags are the first word.
     let flags = 192 + h.flags / 2 % 8 * 2;
@@ -501,7 +501,7 @@ fn one_on(n: u32) -> u32
 
 // An id's place among the bits that tell which ids may be held.
 fn slot_of(id: u32) -> usize
-    ensures { result ≡ slotOf id }
+    ensures { result ≡ slot_of id }
 {
     id as usize % 4096
 }
@@ -571,8 +571,8 @@ fn write_messages(
     held: usize,
     out: &mut [u8],
 ) -> usize
-    requires { (length recording.now ≤ 65536) × Roomy (rowsIn table.now) recording.now ids.old next.old held × Marked (rowsIn table.now) recording.now marks.now }
-    ensures { Wrote (rowsIn table.now) recording.now ids.old ids.new next.old next.new held result out.old out.new }
+    requires { (length recording.now ≤ 65536) × Roomy (rows_in table.now) recording.now ids.old next.old held × Marked (rows_in table.now) recording.now marks.now }
+    ensures { Wrote (rows_in table.now) recording.now ids.old ids.new next.old next.new held result out.old out.new }
 {
     // A bit for each slot, of which there are 4,096.
     let mut seen = [0u8; 512];
@@ -615,7 +615,7 @@ fn again(ids: &[u32], i: usize) -> bool
 }
 
 fn some_twice(ids: &[u32]) -> bool
-    ensures { result ≡ someTwice ids.now }
+    ensures { result ≡ some_twice ids.now }
 {
     let mut i = 0;
     while i < ids.len() {
@@ -630,7 +630,7 @@ fn some_twice(ids: &[u32]) -> bool
 // Whether the first `held` of ids cannot be held: they are more than may be, or one of them stands twice. Measuring alone does not look at them.
 fn bad_ids(ids: &[u32], held: usize, most: usize, measured: bool) -> bool
     requires { most ≤ length ids.now }
-    ensures { result ≡ refusedIds measured most ids.now held }
+    ensures { result ≡ refused_ids measured most ids.now held }
 {
     if measured {
         return false;
@@ -652,7 +652,7 @@ fn shorter(m: usize, n: usize) -> usize
 
 // The most ids that may be held in so many places.
 fn most_in(places: usize, held: usize) -> usize
-    ensures { result ≡ mostIn places held }
+    ensures { result ≡ most_in places held }
 {
     if held != 0 {
         return shorter(places, 64);
@@ -674,7 +674,7 @@ fn known_of(held: usize, measured: bool) -> usize
 
 fn room_of(most: usize, held: usize, measured: bool) -> usize
     requires { measured ≡ false → held ≤ most }
-    ensures { result ≡ roomOf measured most held }
+    ensures { result ≡ room_of measured most held }
 {
     if measured {
         return 1820;
@@ -700,8 +700,8 @@ fn copy_under(
     out: &mut [u8],
     measured: bool,
 ) -> Numbered
-    requires { (refusedIds measured most ids.old held ≡ false) × Most (shorter (length ids.old) (length next.old)) held most × (length table.now ≤ 224) }
-    ensures { Copied (rowsIn table.now) measured most input.now quota (state_of ids.old next.old held) out.old (told result ids.new next.new out.new) }
+    requires { (refused_ids measured most ids.old held ≡ false) × Most (shorter (length ids.old) (length next.old)) held most × (length table.now ≤ 224) }
+    ensures { Copied (rows_in table.now) measured most input.now quota (state_of ids.old next.old held) out.old (told result ids.new next.new out.new) }
 {
     let known = known_of(held, measured);
     let room = room_of(most, held, measured);
@@ -753,7 +753,7 @@ pub fn copy(
     out: &mut [u8],
     measured: bool,
 ) -> Numbered
-    ensures { told result ids.new next.new out.new ≡ settled measured (mostIn (shorter (length ids.old) (length next.old)) held) input.now sheet.now quota (state_of ids.old next.old held) out.old }
+    ensures { told result ids.new next.new out.new ≡ settled measured (most_in (shorter (length ids.old) (length next.old)) held) input.now sheet.now quota (state_of ids.old next.old held) out.old }
 {
     let most = most_in(shorter(ids.len(), next.len()), held);
     if bad_ids(ids, held, most, measured) {
@@ -810,8 +810,8 @@ fn measure_under(
     held: usize,
     most: usize,
 ) -> Numbered
-    requires { (badIds most ids.old held ≡ false) × (most ≤ 64) × (most ≤ length ids.old) × (length table.now ≤ 224) }
-    ensures { MeasuredIds (rowsIn table.now) most input.now quota ids.old held (toldIds result ids.new) }
+    requires { (bad_ids most ids.old held ≡ false) × (most ≤ 64) × (most ≤ length ids.old) × (length table.now ≤ 224) }
+    ensures { MeasuredIds (rows_in table.now) most input.now quota ids.old held (told_ids result ids.new) }
 {
     let mut fresh = [0u32; 64];
     let mut marks = [0u8; 683];
@@ -844,7 +844,7 @@ fn measure_under(
 // What a copy of the first `quota` messages reports where there is room for it, with the ids that are then held, 64 at most. Nothing is written, and
 // no sequence number counted.
 pub fn measure(input: &[u8], sheet: &[u8], quota: usize, ids: &mut [u32], held: usize) -> Numbered
-    ensures { toldIds result ids.new ≡ measuredIds (shorter (length ids.old) 64) input.now sheet.now quota ids.old held }
+    ensures { told_ids result ids.new ≡ measured_ids (shorter (length ids.old) 64) input.now sheet.now quota ids.old held }
 {
     let most = shorter(ids.len(), 64);
     if bad_ids(ids, held, most, false) {

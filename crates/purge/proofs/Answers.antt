@@ -9,35 +9,35 @@ use lib.Seq.{sets, sets-eq, length-take-le}
 use Rattle.rules.specs.Outcome.{good, bad}
 use Rattle.rules.specs.Message as messages
 use Rattle.rules.specs.Message.{recording}
-use Rattle.rules.specs.Reading.{checkedRecording}
+use Rattle.rules.specs.Reading.{checked_recording}
 use Rattle.rules.specs.Sheet as rows
 use Rattle.rules.proofs.Outcomes.{step, stop, passed, stepped, refused-only}
 use Rattle.refusal.specs.declared.Refusal.{Refusal}
 use Rattle.refusal.specs.Numbers.{number_of, refused}
 use Rattle.compose.specs.declared.Written.TheVariants as written
 use Rattle.compose.specs.Told.{told}
-use Rattle.purge.specs.Purge.{keptRecords, keptBytes, keptOf, purged, purge}
+use Rattle.purge.specs.Purge.{kept_records, kept_bytes, kept_of, purged, purge}
 use Rattle.purge.specs.Parts.{KeptAll}
 use Rattle.purge.proofs.Whole.{purge-is}
 
 pub sheet-refused : (buffer sheetBytes : List ℕ) (f : Refusal) → rows.sheet sheetBytes ≡ bad (number_of f.why) f.place → told (written.Refused f) buffer ≡ purge buffer sheetBytes
-unfolding purge keptOf purged
+unfolding purge kept_of purged
 sheet-refused buffer sheetBytes f e = sym (ap (purged buffer) (stop _ _ e))
 
 module _ (buffer sheetBytes : List ℕ) (rs : List rows.Row) (valid : rows.sheet sheetBytes ≡ good rs) where
-  pub recording-refused : (f : Refusal) → refused f ≡ checkedRecording buffer → told (written.Refused f) buffer ≡ purge buffer sheetBytes
-  unfolding checkedRecording purge keptOf purged
+  pub recording-refused : (f : Refusal) → refused f ≡ checked_recording buffer → told (written.Refused f) buffer ≡ purge buffer sheetBytes
+  unfolding checked_recording purge kept_of purged
   recording-refused f e =
       let b : recording buffer ≡ bad (number_of f.why) f.place = refused-only _ _ (sym e) in
       sym (ap (purged buffer) (step _ _ valid (stop _ _ b)))
 
-  module _ (n : ℕ × ℕ) (e : good n ≡ checkedRecording buffer) where
+  module _ (n : ℕ × ℕ) (e : good n ≡ checked_recording buffer) where
     record Passes : Type 0 where
       ms : List messages.Message
       read : recording buffer ≡ good ms
 
     passes : Passes
-    unfolding checkedRecording
+    unfolding checked_recording
     passes = let (ms, r, q) = stepped _ _ (sym e) in record { ms = ms; read = r }
 
     pub short : length buffer ≤ 65536
@@ -46,11 +46,11 @@ module _ (buffer sheetBytes : List ℕ) (rs : List rows.Row) (valid : rows.sheet
 
     module _ (out : List ℕ) (r : ℕ) (z : KeptAll rs buffer out r) where
       abbrev kept : List ℕ
-      kept = keptBytes (keptRecords rs passes.ms)
+      kept = kept_bytes (kept_records rs passes.ms)
 
-      kept_of : keptOf buffer sheetBytes ≡ good (keptRecords rs passes.ms)
-      unfolding keptOf
-      kept_of = step _ _ valid (step _ _ passes.read refl)
+      kept_of_lem : kept_of buffer sheetBytes ≡ good (kept_records rs passes.ms)
+      unfolding kept_of
+      kept_of_lem = step _ _ valid (step _ _ passes.read refl)
 
       pub used : r ≤ length out
       used = omega (arith, (z.right passes.ms passes.read).0, z.long)
@@ -66,4 +66,4 @@ module _ (buffer sheetBytes : List ℕ) (rs : List rows.Row) (valid : rows.sheet
           ∙ rw (drop_of_length-le out h, append-nil, (z.right passes.ms passes.read).1, z.long, used-is)
 
       pub all_done : (after : List ℕ) → after ≡ sets out r (replicate (length out - r) 0) → told (written.Done r) after ≡ purge buffer sheetBytes
-      all_done after q = rw (q, freed, used-is) (sym (purge-is buffer sheetBytes (keptRecords rs passes.ms) kept_of))
+      all_done after q = rw (q, freed, used-is) (sym (purge-is buffer sheetBytes (kept_records rs passes.ms) kept_of_lem))

@@ -7,8 +7,8 @@ use borrow.Rule.Slice.PartMut.{put_mid}
 use lib.ListN.{length, get_or, set, take, drop, replicate, length-append, length-drop, take-append-drop, drop_of_length-le}
 use lib.Seq.{sets, sets-eq, length-sets, set-set, drop-cons, take-add, take-take, take_all, drop-drop, length-take-le, split_at}
 use Rattle.rules.specs.Bytes.{part}
-use Rattle.rules.specs.Packages.{packageLength}
-use Rattle.rules.specs.Clean.{cleanPiece}
+use Rattle.rules.specs.Packages.{package_length}
+use Rattle.rules.specs.Clean.{clean_piece}
 use Rattle.rules.proofs.Loops.{sets-sets, drop-sets}
 use Rattle.numbered.proofs.Stores.{sets-before}
 use Rattle.message.specs.declared.Package.{Package}
@@ -77,7 +77,7 @@ one-over u v b x y i =
     rw (← sets-sets u (x ∷ v) b i, ← sets-before (x ∷ []) v (sets b i u) (i + length u), set-set, sets-before (y ∷ []) v (sets b i u) (i + length u), sets-sets u (y ∷ v) b i)
 
 -- a package of n bytes moved down with its padding, reserved byte and padding zero
-module _ (s : List ℕ) (to at n m : ℕ) (least : 12 ≤ n) (most : n ≤ m) (inside : at + m ≤ length s) (size : packageLength (part at (at + m) s) ≡ n) where
+module _ (s : List ℕ) (to at n m : ℕ) (least : 12 ≤ n) (most : n ≤ m) (inside : at + m ≤ length s) (size : package_length (part at (at + m) s) ≡ n) where
   abbrev c : List ℕ
   c = part at (at + m) s
 
@@ -96,15 +96,15 @@ module _ (s : List ℕ) (to at n m : ℕ) (least : 12 ≤ n) (most : n ≤ m) (i
       let y : at + m - at ≡ m = omega arith in
       rw (x, y) (sym (take-take n m (drop at s) most))
 
-  clean_is : cleanPiece c ≡ (take 6 a ++ (0 ∷ drop 7 a)) ++ replicate (m - n) 0
-  unfolding cleanPiece
+  clean_is : clean_piece c ≡ (take 6 a ++ (0 ∷ drop 7 a)) ++ replicate (m - n) 0
+  unfolding clean_piece
   clean_is =
       let x : take 6 a ≡ take 6 c = rw a-is (take-take 6 n c (omega arith)) in
       let y : drop 7 a ≡ take (n - 7) (drop 7 c) = rw a-is (drop-take 7 n c) in
       rw (size, x, y, c-long)
 
-  pub package-moved : {b1 b2 b3 : List ℕ} → b1 ≡ sets s to a → b2 ≡ sets b1 (to + 6) (0 ∷ []) → b3 ≡ sets b2 (to + n) (replicate (m - n) 0) → b3 ≡ sets s to (cleanPiece c)
-  package-moved {b2 = b2} e1 e2 e3 =
+  pub package_moved : {b1 b2 b3 : List ℕ} → b1 ≡ sets s to a → b2 ≡ sets b1 (to + 6) (0 ∷ []) → b3 ≡ sets b2 (to + n) (replicate (m - n) 0) → b3 ≡ sets s to (clean_piece c)
+  package_moved {b2 = b2} e1 e2 e3 =
       let six : length (take 6 a) ≡ 6 = length-take-le 6 a (omega (arith, a-long)) in
       let seven : length (drop 7 a) ≡ n - 7 = rw (length-drop 7 a, a-long) in
       let n-long : length (take 6 a ++ (0 ∷ drop 7 a)) ≡ n = omega (arith, length-append (take 6 a) (0 ∷ drop 7 a)) in
@@ -113,9 +113,9 @@ module _ (s : List ℕ) (to at n m : ℕ) (least : 12 ≤ n) (most : n ≤ m) (i
       e3 ∙ rw (z, clean_is) (rw n-long at (sets-sets (take 6 a ++ (0 ∷ drop 7 a)) (replicate (m - n) 0) s to))
 
 -- the same of a package by its places
-pub package-kept : (s : List ℕ) (at to : ℕ) (p : Package) → Standing s at p → {b1 b2 b3 : List ℕ} → b1 ≡ sets s to (part at (at + (p.to - at)) s) → b2 ≡ sets b1 (to + 6) (0 ∷ [])
-    → b3 ≡ sets b2 (to + (p.to - at)) (replicate (p.next - p.to) 0) → b3 ≡ sets s to (cleanPiece (part at p.next s))
-package-kept s at to p d e1 e2 e3 =
+pub package_kept : (s : List ℕ) (at to : ℕ) (p : Package) → Standing s at p → {b1 b2 b3 : List ℕ} → b1 ≡ sets s to (part at (at + (p.to - at)) s) → b2 ≡ sets b1 (to + 6) (0 ∷ [])
+    → b3 ≡ sets b2 (to + (p.to - at)) (replicate (p.next - p.to) 0) → b3 ≡ sets s to (clean_piece (part at p.next s))
+package_kept s at to p d e1 e2 e3 =
     let z : at + (p.next - at) ≡ p.next = omega (arith, d.least, d.padding) in
     let y : p.next - p.to ≡ p.next - at - (p.to - at) = omega (arith, d.least, d.padding) in
-    rw z at (package-moved s to at (p.to - at) (p.next - at) (omega (arith, d.least)) (omega (arith, d.padding)) (rw z d.inside) (rw z d.size) e1 e2 (rw y at e3))
+    rw z at (package_moved s to at (p.to - at) (p.next - at) (omega (arith, d.least)) (omega (arith, d.padding)) (rw z d.inside) (rw z d.size) e1 e2 (rw y at e3))

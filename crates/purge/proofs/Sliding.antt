@@ -10,13 +10,13 @@ use lib.Seq.{sets, length-sets, drop-drop}
 use Rattle.rules.specs.Outcome.{good, bad}
 use Rattle.rules.specs.Packages as rules
 use Rattle.rules.specs.Bytes.{Bytes, pad, part}
-use Rattle.rules.specs.Packages.{packageLength, piece, cut, packageOf, piece_of, packageTime}
-use Rattle.rules.specs.Clean.{cleanPiece}
-use Rattle.rules.specs.Message.{isSimulated, Message}
+use Rattle.rules.specs.Packages.{package_length, piece, cut, package_of, piece_of, package_time}
+use Rattle.rules.specs.Clean.{clean_piece}
+use Rattle.rules.specs.Message.{is_simulated, Message}
 use Rattle.rules.specs.Sheet as rows
 use Rattle.rules.specs.Copy.{granted}
-use Rattle.rules.specs.Walk.{PackageSpot, packageSpot, packageAt}
-use Rattle.rules.proofs.Outcomes.{good-inj, good≢bad}
+use Rattle.rules.specs.Walk.{PackageSpot, package_spot, package_at}
+use Rattle.rules.proofs.Outcomes.{good_inj, good≢bad}
 use Rattle.rules.proofs.Numbers.{bytes_take, bytes_drop}
 use Rattle.rules.proofs.Cleaned.{piece-clean}
 use Rattle.rules.proofs.Growing.{map-append}
@@ -26,26 +26,26 @@ use Rattle.message.specs.declared.Header.{Header}
 use Rattle.message.specs.declared.Package.{Package}
 use Rattle.message.specs.declared.PackageRead.{PackageRead}
 use Rattle.message.specs.declared.PackageRead.TheVariants as P
-use Rattle.message.specs.Answers.{toldPackage}
-use Rattle.sheet.specs.Table.{rowsIn, nearOf, nearGrants}
-use Rattle.numbered.specs.Parts.{messageBy, payloadOf}
-use Rattle.numbered.proofs.Found.{Taken, taken, Found, found, no_end, no-piece, is-piece, piece-size, next-is, least, on, still, piece-length}
-use Rattle.numbered.proofs.Packages.{NoPackage, near-asked, payload-more, no-package}
+use Rattle.message.specs.Answers.{told_package}
+use Rattle.sheet.specs.Table.{rows_in, near_of, near_grants}
+use Rattle.numbered.specs.Parts.{message_by, payload_of}
+use Rattle.numbered.proofs.Found.{Taken, taken, Found, found, no_end, no_piece, is-piece, piece-size, next-is, least, on, still, piece-length}
+use Rattle.numbered.proofs.Packages.{NoPackage, near_asked, payload-more, no_package}
 use Rattle.purge.specs.declared.Left.{Left}
-use Rattle.purge.specs.Purge.{keptPackages}
-use Rattle.purge.specs.Parts.{keptPieces, Standing, KeptUnless, Slid}
+use Rattle.purge.specs.Purge.{kept_packages}
+use Rattle.purge.specs.Parts.{kept_pieces, Standing, KeptUnless, Slid}
 use Rattle.purge.proofs.Keeping.{kept_append, kept-taken, kept-stays}
 use Rattle.purge.proofs.Stores.{take_more}
 
 -- one piece more: granted, or kept
 module _ (rs : List rows.Row) (m : Message) (cs : List (List ℕ)) (c : List ℕ) where
-  pub piece-taken : granted rs m (packageOf c) ≡ true → keptPieces rs m (cs ++ (c ∷ [])) ≡ keptPieces rs m cs
-  unfolding keptPieces
-  piece-taken e = rw (map-append packageOf cs (c ∷ []), kept_append rs m (map packageOf cs) (packageOf c ∷ []), kept-taken rs m (packageOf c) e, append-nil)
+  pub piece-taken : granted rs m (package_of c) ≡ true → kept_pieces rs m (cs ++ (c ∷ [])) ≡ kept_pieces rs m cs
+  unfolding kept_pieces
+  piece-taken e = rw (map-append package_of cs (c ∷ []), kept_append rs m (map package_of cs) (package_of c ∷ []), kept-taken rs m (package_of c) e, append-nil)
 
-  pub piece-stays : granted rs m (packageOf c) ≡ false → keptPieces rs m (cs ++ (c ∷ [])) ≡ keptPieces rs m cs ++ (packageOf c ∷ [])
-  unfolding keptPieces
-  piece-stays e = rw (map-append packageOf cs (c ∷ []), kept_append rs m (map packageOf cs) (packageOf c ∷ []), kept-stays rs m (packageOf c) e)
+  pub piece-stays : granted rs m (package_of c) ≡ false → kept_pieces rs m (cs ++ (c ∷ [])) ≡ kept_pieces rs m cs ++ (package_of c ∷ [])
+  unfolding kept_pieces
+  piece-stays e = rw (map-append package_of cs (c ∷ []), kept_append rs m (map package_of cs) (package_of c ∷ []), kept-stays rs m (package_of c) e)
 
 -- i bytes of the packages from place `from` on have been read
 pub record Sliding (rs : List rows.Row) (m : Message) (from to : ℕ) (s₀ s : List ℕ) (l : Left) (k : ℕ) : Type 0 where
@@ -58,13 +58,13 @@ pub record Sliding (rs : List rows.Row) (m : Message) (from to : ℕ) (s₀ s : 
   pub rest : drop k s ≡ drop k s₀
   pub small : l.bytes ≤ i
   pub few : l.packages ≤ i
-  pub packages : l.packages ≡ length (keptPieces rs m done)
-  pub used : take (to + l.bytes) s ≡ take to s₀ ++ payloadOf (keptPieces rs m done)
+  pub packages : l.packages ≡ length (kept_pieces rs m done)
+  pub used : take (to + l.bytes) s ≡ take to s₀ ++ payload_of (kept_pieces rs m done)
 
 -- where a package that was found stands, and what its piece is
 module _ (s : List ℕ) (k : ℕ) (p : Package) (f : Found s k p) where
-  to_is : k + packageLength f.c ≡ p.to
-  unfolding packageSpot
+  to_is : k + package_length f.c ≡ p.to
+  unfolding package_spot
   to_is = ap (λ (x : PackageSpot). x.to) f.spot
 
   is-taken : Taken (drop k s) f.c f.n
@@ -72,7 +72,7 @@ module _ (s : List ℕ) (k : ℕ) (p : Package) (f : Found s k p) where
 
   piece-part : f.c ≡ part k p.next s
   piece-part =
-      let z : p.next - k ≡ pad (packageLength (drop k s)) = omega (arith, next-is s k p f, is-taken.size) in
+      let z : p.next - k ≡ pad (package_length (drop k s)) = omega (arith, next-is s k p f, is-taken.size) in
       is-taken.bytes ∙ rw z
 
   standing : length s ≤ 65536 → Standing s k p
@@ -84,19 +84,19 @@ module _ (s : List ℕ) (k : ℕ) (p : Package) (f : Found s k p) where
     size = rw (← piece-part) (omega (arith, to_is));
   }
 
-  cleaned : Bytes (drop k s) → cleanPiece (part k p.next s) ≡ piece_of (packageOf f.c)
-  cleaned b = rw (← piece-part) (sym (piece-clean f.c (is-piece s k p f) (rw is-taken.bytes (bytes_take (pad (packageLength (drop k s))) (drop k s) b))))
+  cleaned : Bytes (drop k s) → clean_piece (part k p.next s) ≡ piece_of (package_of f.c)
+  cleaned b = rw (← piece-part) (sym (piece-clean f.c (is-piece s k p f) (rw is-taken.bytes (bytes_take (pad (package_length (drop k s))) (drop k s) b))))
 
 module _ (table : List ℕ) (h : Header) (from to : ℕ) (s₀ : List ℕ) (ahead : to ≤ from) (into : from ≤ length s₀) (short : length s₀ ≤ 65536) where
   abbrev sheet : List rows.Row
-  sheet = rowsIn table
+  sheet = rows_in table
 
   abbrev it : Message
-  it = messageBy h
+  it = message_by h
 
-  pub slide-start : Sliding sheet it from to s₀ s₀ (record { bytes = 0; packages = 0 }) from
-  unfolding keptPieces keptPackages
-  slide-start = record {
+  pub slide_start : Sliding sheet it from to s₀ s₀ (record { bytes = 0; packages = 0 }) from
+  unfolding kept_pieces kept_packages
+  slide_start = record {
     i = 0;
     done = [];
     place = sym (add-zero from);
@@ -123,38 +123,38 @@ module _ (table : List ℕ) (h : Header) (from to : ℕ) (s₀ : List ℕ) (ahea
       long = inv.long;
       small = omega (arith, inv.small, inv.place, inv.inside);
       few = omega (arith, inv.few, inv.place, inv.inside);
-      right = λ cs c. subst (λ (ds : List (List ℕ)). (l.packages ≡ length (keptPieces sheet it ds)) × (take (to + l.bytes) s ≡ take to s₀ ++ payloadOf (keptPieces sheet it ds))) (sym (e cs c)) (inv.packages, inv.used);
+      right = λ cs c. subst (λ (ds : List (List ℕ)). (l.packages ≡ length (kept_pieces sheet it ds)) × (take (to + l.bytes) s ≡ take to s₀ ++ payload_of (kept_pieces sheet it ds))) (sym (e cs c)) (inv.packages, inv.used);
     }
 
-    pub slide-ended : length s ≤ k → Slid sheet it from to s₀ s l
-    slide-ended e = slid (λ cs c. good-inj (sym c ∙ passing-end piece from (drop from s₀) inv.done inv.i k inv.passing (omega (arith, length-drop from s₀, inv.long, inv.place))))
+    pub slide_ended : length s ≤ k → Slid sheet it from to s₀ s l
+    slide_ended e = slid (λ cs c. good_inj (sym c ∙ passing-end piece from (drop from s₀) inv.done inv.i k inv.passing (omega (arith, length-drop from s₀, inv.long, inv.place))))
 
     module _ (e : k < length s) where
       less : inv.i < length (drop from s₀)
       less = omega (arith, length-drop from s₀, inv.long, inv.place)
 
-      small-too : length s ≤ 65536
-      small-too = omega (arith, inv.long)
+      small_too : length s ≤ 65536
+      small_too = omega (arith, inv.long)
 
-      pub slide-stopped : (x : PackageRead) → NoPackage x → toldPackage x ≡ packageAt s k → Slid sheet it from to s₀ s l
-      slide-stopped (P.Package p) o q = absurd (no-package p o)
-      slide-stopped P.End o q = absurd (no_end s k small-too e q)
-      slide-stopped (P.Refused f) o q =
-          let b : piece k (drop inv.i (drop from s₀)) ≡ bad (number_of f.why) f.place = rw unread (no-piece s k small-too e f q) in
+      pub slide_stopped : (x : PackageRead) → NoPackage x → told_package x ≡ package_at s k → Slid sheet it from to s₀ s l
+      slide_stopped (P.Package p) o q = absurd (no_package p o)
+      slide_stopped P.End o q = absurd (no_end s k small_too e q)
+      slide_stopped (P.Refused f) o q =
+          let b : piece k (drop inv.i (drop from s₀)) ≡ bad (number_of f.why) f.place = rw unread (no_piece s k small_too e f q) in
           slid (λ cs c. absurd (good≢bad (sym (passing-bad piece from (drop from s₀) inv.done inv.i k inv.passing less b) ∙ c)))
 
-      module _ (p : Package) (q : toldPackage (P.Package p) ≡ packageAt s k) where
+      module _ (p : Package) (q : told_package (P.Package p) ≡ package_at s k) where
         abbrev f : Found s k p
         f = found s k p q
 
-        pub slide-standing : Standing s k p
-        slide-standing = standing s k p f small-too
+        pub slide_standing : Standing s k p
+        slide_standing = standing s k p f small_too
 
-        pub slide-on : k < p.next
-        slide-on = on s k p f
+        pub slide_on : k < p.next
+        slide_on = on s k p f
 
-        pub slide-still : p.next ≤ length s
-        slide-still = still s k p f
+        pub slide_still : p.next ≤ length s
+        slide_still = still s k p f
 
         passed : Passing piece from (drop from s₀) (inv.done ++ (f.c ∷ [])) (inv.i + f.n) p.next
         passed = subst (λ (j : ℕ). Passing piece from (drop from s₀) (inv.done ++ (f.c ∷ [])) (inv.i + f.n) j) (next-is s k p f) (passing-next piece from (drop from s₀) inv.done inv.i k f.c f.n inv.passing less (omega (arith, least s k p f)) (rw unread f.read))
@@ -166,7 +166,7 @@ module _ (table : List ℕ) (h : Header) (from to : ℕ) (s₀ : List ℕ) (ahea
         place-next = omega (arith, next-is s k p f, inv.place)
 
         module _ (after : List ℕ) (r : Left) where
-          taken_next : granted sheet it (packageOf f.c) ≡ true → after ≡ s → r ≡ l → Sliding sheet it from to s₀ after r p.next
+          taken_next : granted sheet it (package_of f.c) ≡ true → after ≡ s → r ≡ l → Sliding sheet it from to s₀ after r p.next
           taken_next g a b =
               let z = piece-taken sheet it inv.done f.c g in
               rw (a, b) (record {
@@ -174,7 +174,7 @@ module _ (table : List ℕ) (h : Header) (from to : ℕ) (s₀ : List ℕ) (ahea
                 done = inv.done ++ (f.c ∷ []);
                 place = place-next;
                 passing = passed;
-                inside = omega (arith, slide-still, inv.long);
+                inside = omega (arith, slide_still, inv.long);
                 long = inv.long;
                 rest = rest-next;
                 small = omega (arith, inv.small);
@@ -184,32 +184,32 @@ module _ (table : List ℕ) (h : Header) (from to : ℕ) (s₀ : List ℕ) (ahea
               })
 
           abbrev ps : List rules.Package
-          ps = keptPieces sheet it inv.done
+          ps = kept_pieces sheet it inv.done
 
           abbrev bytes : List ℕ
-          bytes = piece_of (packageOf f.c)
+          bytes = piece_of (package_of f.c)
 
-          stays-next : granted sheet it (packageOf f.c) ≡ false → after ≡ sets s (to + l.bytes) bytes → r ≡ record { bytes = l.bytes + (p.next - k); packages = l.packages + 1 } → Sliding sheet it from to s₀ after r p.next
+          stays-next : granted sheet it (package_of f.c) ≡ false → after ≡ sets s (to + l.bytes) bytes → r ≡ record { bytes = l.bytes + (p.next - k); packages = l.packages + 1 } → Sliding sheet it from to s₀ after r p.next
           stays-next g a b =
               let z = piece-stays sheet it inv.done f.c g in
               let n : length bytes ≡ f.n = piece-length s k p f in
               let m : p.next - k ≡ f.n = omega (arith, next-is s k p f) in
-              let t : take (to + l.bytes + length bytes) (sets s (to + l.bytes) bytes) ≡ take (to + l.bytes) s ++ bytes = take_more bytes s (to + l.bytes) (omega (arith, behind, slide-still, next-is s k p f)) in
+              let t : take (to + l.bytes + length bytes) (sets s (to + l.bytes) bytes) ≡ take (to + l.bytes) s ++ bytes = take_more bytes s (to + l.bytes) (omega (arith, behind, slide_still, next-is s k p f)) in
               let y : to + (l.bytes + f.n) ≡ to + l.bytes + length bytes = omega (arith) in
               rw (a, b, m) (record {
                 i = inv.i + f.n;
                 done = inv.done ++ (f.c ∷ []);
                 place = place-next;
                 passing = passed;
-                inside = omega (arith, slide-still, inv.long);
+                inside = omega (arith, slide_still, inv.long);
                 long = rw length-sets inv.long;
                 rest = rw (drop-sets bytes s (to + l.bytes) p.next (omega (arith, behind, next-is s k p f))) rest-next;
                 small = omega (arith, inv.small);
                 few = omega (arith, inv.few, least s k p f);
-                packages = rw z (omega (arith, inv.packages, length-append ps (packageOf f.c ∷ [])));
-                used = rw (z, y, t, inv.used, payload-more ps (packageOf f.c), append_assoc);
+                packages = rw z (omega (arith, inv.packages, length-append ps (package_of f.c ∷ [])));
+                used = rw (z, y, t, inv.used, payload-more ps (package_of f.c), append_assoc);
               })
 
-          pub slide-next : Bytes s₀ → (b : Bool) → b ≡ nearGrants p.id.0 (packageTime h.seconds h.nanos p.delta) (nearOf h.id.0 (isSimulated h.flags) table) → KeptUnless s after k p b (to + l.bytes) l r → Sliding sheet it from to s₀ after r p.next
-          slide-next y true g w = taken_next (sym (g ∙ near-asked table h s k p f)) w.bytes w.left
-          slide-next y false g w = stays-next (sym (g ∙ near-asked table h s k p f)) (w.bytes ∙ ap (sets s (to + l.bytes)) (cleaned s k p f (rw inv.rest (bytes_drop k s₀ y)))) w.left
+          pub slide_next : Bytes s₀ → (b : Bool) → b ≡ near_grants p.id.0 (package_time h.seconds h.nanos p.delta) (near_of h.id.0 (is_simulated h.flags) table) → KeptUnless s after k p b (to + l.bytes) l r → Sliding sheet it from to s₀ after r p.next
+          slide_next y true g w = taken_next (sym (g ∙ near_asked table h s k p f)) w.bytes w.left
+          slide_next y false g w = stays-next (sym (g ∙ near_asked table h s k p f)) (w.bytes ∙ ap (sets s (to + l.bytes)) (cleaned s k p f (rw inv.rest (bytes_drop k s₀ y)))) w.left

@@ -1,31 +1,31 @@
 -- Document 02, A9, worked out by hand: a recording of four messages purged under three sheets, and what is refused.
 use Rattle.std.specs.Prelude.{ℕ, ◌<◌, ◌≡◌, List, [], ◌∷◌, ◌++◌, length, replicate}
 use Rattle.rules.specs.Outcome.{SHORT, ROW, LARGE, COUNT}
-use Rattle.rules.specs.Message.{mostBytes}
+use Rattle.rules.specs.Message.{most_bytes}
 use Rattle.rules.specs.Buffer.{Written, unwritten}
-use Rattle.rules.specs.Table.{words, R, optionsWith}
+use Rattle.rules.specs.Table.{words, R, options_with}
 use Rattle.purge.specs.Purge.{purge}
 
 -- Two packages, of which R grants the first, with a count, options behind an 0x00, reserved bits, a reserved byte and padding.
-abbrev pub losesOne : List ℕ
-losesOne = words
+abbrev pub loses_one : List ℕ
+loses_one = words
     (0x12A05BCF ∷ 0x00000007 ∷ 0x00000005 ∷ 0x00000040 ∷ 0x00000064 ∷ 0x00000000 ∷ 0x87060000 ∷ 0x000200FF
     ∷ 0x00000001 ∷ 0x000D0000 ∷ 0x00000000 ∷ 0xAA112233 ∷ 0x00000002 ∷ 0x00105500 ∷ 0x0000000A ∷ 0xDEADBEEF ∷ [])
 
 -- One package, which R grants.
-abbrev pub losesLast : List ℕ
-losesLast = words (0x10000080 ∷ 0x00000007 ∷ 0x00000006 ∷ 0x00000028 ∷ 0x00000064 ∷ 0x00000000 ∷ 0x00000001 ∷ 0x000D0000 ∷ 0x00000000 ∷ 0xAA112233 ∷ [])
+abbrev pub loses_last : List ℕ
+loses_last = words (0x10000080 ∷ 0x00000007 ∷ 0x00000006 ∷ 0x00000028 ∷ 0x00000064 ∷ 0x00000000 ∷ 0x00000001 ∷ 0x000D0000 ∷ 0x00000000 ∷ 0xAA112233 ∷ [])
 
 -- No package, and three option words for an option of one byte.
-abbrev pub hadNone : List ℕ
-hadNone = words (0x13000000 ∷ 0x00000007 ∷ 0x00000007 ∷ 0x00000024 ∷ 0x00000064 ∷ 0x00000000 ∷ 0x0100FFFF ∷ 0xFFFFFFFF ∷ 0xFFFFFFFF ∷ [])
+abbrev pub had_none : List ℕ
+had_none = words (0x13000000 ∷ 0x00000007 ∷ 0x00000007 ∷ 0x00000024 ∷ 0x00000064 ∷ 0x00000000 ∷ 0x0100FFFF ∷ 0xFFFFFFFF ∷ 0xFFFFFFFF ∷ [])
 
 -- One package of another message id, which R does not grant.
-abbrev pub losesNone : List ℕ
-losesNone = words (0x10000080 ∷ 0x00000008 ∷ 0xFFFFFFFF ∷ 0x00000028 ∷ 0x00000064 ∷ 0x00000000 ∷ 0x00000001 ∷ 0x000D7703 ∷ 0x00000000 ∷ 0xAA112233 ∷ [])
+abbrev pub loses_none : List ℕ
+loses_none = words (0x10000080 ∷ 0x00000008 ∷ 0xFFFFFFFF ∷ 0x00000028 ∷ 0x00000064 ∷ 0x00000000 ∷ 0x00000001 ∷ 0x000D7703 ∷ 0x00000000 ∷ 0xAA112233 ∷ [])
 
 abbrev pub recorded : List ℕ
-recorded = losesOne ++ (losesLast ++ (hadNone ++ losesNone))
+recorded = loses_one ++ (loses_last ++ (had_none ++ loses_none))
 
 -- Every package of every message, from 0 s up to 4,294,967,295 s.
 abbrev pub everything : List ℕ
@@ -62,7 +62,7 @@ pub record Worked : Type 0 where
   pub nothing : purge [] R ≡ (used 0, [])
   pub row : purge recorded (replicate 31 0) ≡ (unwritten ROW 31, recorded)
   pub row_first : (buffer : List ℕ) → purge buffer (replicate 32 0) ≡ (unwritten ROW 0, buffer)
-  pub large : (buffer : List ℕ) → mostBytes < length buffer → purge buffer R ≡ (unwritten LARGE mostBytes, buffer)
+  pub large : (buffer : List ℕ) → most_bytes < length buffer → purge buffer R ≡ (unwritten LARGE most_bytes, buffer)
   pub late : purge (recorded ++ replicate 23 0) R ≡ (unwritten SHORT 180, recorded ++ replicate 23 0)
-  pub count : purge (losesLast ++ optionsWith 0x87060000) R ≡ (unwritten COUNT 40, losesLast ++ optionsWith 0x87060000)
-  pub appended : purge (left ++ losesLast) R ≡ (used 116, left ++ replicate 40 0)
+  pub count : purge (loses_last ++ options_with 0x87060000) R ≡ (unwritten COUNT 40, loses_last ++ options_with 0x87060000)
+  pub appended : purge (left ++ loses_last) R ≡ (used 116, left ++ replicate 40 0)

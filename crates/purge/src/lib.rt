@@ -3,16 +3,16 @@
 ghost use Rattle.std.specs.Prelude.{◌≡◌, [], ◌+◌, ◌≤◌, length, drop};
 ghost use Rattle.std.proofs.lemmas.List.Edits.{sets};
 ghost use Rattle.rules.specs.Bytes.{pad, part, padded};
-ghost use Rattle.sheet.specs.Table.{rowsIn};
-ghost use Rattle.numbered.specs.Parts.{messageBy};
-ghost use Rattle.rules.specs.Clean.{cleanPiece};
-ghost use Rattle.rules.specs.Options.{optionSize};
-ghost use Rattle.rules.specs.Reading.{messageAt};
-ghost use Rattle.message.specs.Answers.{spotOfMessage};
+ghost use Rattle.sheet.specs.Table.{rows_in};
+ghost use Rattle.numbered.specs.Parts.{message_by};
+ghost use Rattle.rules.specs.Clean.{clean_piece};
+ghost use Rattle.rules.specs.Options.{option_size};
+ghost use Rattle.rules.specs.Reading.{message_at};
+ghost use Rattle.message.specs.Answers.{spot_of_message};
 ghost use Rattle.compose.specs.Told.{told};
 ghost use Rattle.rules.specs.Outcome.{good};
-ghost use Rattle.purge.specs.Purge.{countSet, purge};
-ghost use Rattle.purge.specs.Parts.{WholeRun, Standing, KeptUnless, Slid, countAt, Headed, headed, losesBy, KeptAt, KeptAll};
+ghost use Rattle.purge.specs.Purge.{count_set, purge};
+ghost use Rattle.purge.specs.Parts.{WholeRun, Standing, KeptUnless, Slid, count_at, Headed, headed, loses_by, KeptAt, KeptAll};
 
 use compose::{Written, put_header, record_of};
 use message::{
@@ -81,7 +81,7 @@ struct Left {
 // Moves package p, which stands at `at`, down to `to`. Its reserved byte and its padding become zero.
 fn keep_package(s: &mut [u8], at: usize, p: Package, to: usize)
     requires { Standing s.old at p × (to ≤ at) }
-    ensures { s.new ≡ sets s.old to (cleanPiece (part at p.next s.old)) }
+    ensures { s.new ≡ sets s.old to (clean_piece (part at p.next s.old)) }
 {
     let size = p.to - at;
     move_down(s, to, at, size);
@@ -115,7 +115,7 @@ fn keep_packages(
     near: &mut [u64],
 ) -> Left
     requires { (to ≤ from) × (from ≤ length s.old) × (length s.old ≤ 65536) × (length table.now ≤ 224) × (length near.old ≡ 128) }
-    ensures { Slid (rowsIn table.now) (messageBy h) from to s.old s.new result }
+    ensures { Slid (rows_in table.now) (message_by h) from to s.old s.new result }
 {
     let many = near_rows(table, source_of(h), near);
     let mut left = Left {
@@ -141,7 +141,7 @@ fn keep_packages(
 // How many bytes the option at place i has: one, or what its length byte says.
 fn option_size(o: &[u8], i: usize) -> usize
     requires { i ≤ 65536 }
-    ensures { result ≡ optionSize (drop i o.now) }
+    ensures { result ≡ option_size (drop i o.now) }
 {
     if byte_at(o, i) < 0x80 {
         return 1;
@@ -152,7 +152,7 @@ fn option_size(o: &[u8], i: usize) -> usize
 // Sets the option at place i to the number `count`, if it is a package count.
 fn set_count(o: &mut [u8], i: usize, count: u32)
     requires { i ≤ 65536 }
-    ensures { o.new ≡ countAt o.old i count }
+    ensures { o.new ≡ count_at o.old i count }
 {
     if byte_at(o, i) == 0x87 {
         put_word(o, i + 2, count);
@@ -162,7 +162,7 @@ fn set_count(o: &mut [u8], i: usize, count: u32)
 // Sets each package count of an option run.
 fn set_counts(o: &mut [u8], count: u32)
     requires { WholeRun o.old × (length o.old ≤ 65536) }
-    ensures { o.new ≡ countSet count [] o.old }
+    ensures { o.new ≡ count_set count [] o.old }
 {
     let mut i = 0;
     while i < o.len() {
@@ -202,7 +202,7 @@ fn put_front(s: &mut [u8], to: usize, h: Header, left: Left)
 
 // Whether a message that had so many packages, and has so many left, loses its last one.
 fn loses_last(had: usize, left: usize) -> bool
-    ensures { result ≡ losesBy had left }
+    ensures { result ≡ loses_by had left }
 {
     if had == 0 {
         return false;
@@ -220,8 +220,8 @@ fn keep_message(
     table: &[u64],
     near: &mut [u64],
 ) -> usize
-    requires { (to ≤ at) × (length s.old ≤ 65536) × (good (spotOfMessage m) ≡ messageAt s.old at) × (length table.now ≤ 224) × (length near.old ≡ 128) }
-    ensures { KeptAt (rowsIn table.now) at m.next to s.old s.new result }
+    requires { (to ≤ at) × (length s.old ≤ 65536) × (good (spot_of_message m) ≡ message_at s.old at) × (length table.now ≤ 224) × (length near.old ≡ 128) }
+    ensures { KeptAt (rows_in table.now) at m.next to s.old s.new result }
 {
     let h = m.header;
     let next = m.next;
@@ -238,7 +238,7 @@ fn keep_message(
 // Keeps what the sheet leaves of a recording that passes, and says where it ends.
 fn keep_messages(s: &mut [u8], table: &[u64]) -> usize
     requires { (length s.old ≤ 65536) × (length table.now ≤ 224) }
-    ensures { KeptAll (rowsIn table.now) s.old s.new result }
+    ensures { KeptAll (rows_in table.now) s.old s.new result }
 {
     // Room for all 32 rows of a sheet, four numbers each.
     let mut near = [0u64; 128];

@@ -18,9 +18,9 @@ use Rattle.rules.specs.Bytes.{at}
 use Rattle.rules.proofs.Outcomes.{pass, halt, step, stop}
 use Rattle.rules.proofs.Loops.{rest}
 use Rattle.radio.specs.Quotient.{quotient}
-use Rattle.radio.specs.Row.{levelOf, rateOf}
-use Rattle.radio.specs.Tlv.{signed, tlvSize, typed, opportunityOf, heartbeatOf, metricOf, reportOf, fixedBytes, tlvFits, keepsRules, tlv}
-use Rattle.radio.specs.Radio.{tlvAt}
+use Rattle.radio.specs.Row.{level_of, rate_of}
+use Rattle.radio.specs.Tlv.{signed, tlv_size, typed, opportunity_of, heartbeat_of, metric_of, report_of, fixed_bytes, tlv_fits, keeps_rules, tlv}
+use Rattle.radio.specs.Radio.{tlv_at}
 use Rattle.radio.proofs.Tlvs.{signed-fits}
 use Rattle.radio.specs.declared.TxOp as opportunity
 use Rattle.radio.specs.declared.Heartbeat as heartbeat
@@ -32,46 +32,46 @@ use Rattle.radio.specs.declared.Tlv.TheVariants.{TxOp, Heartbeat, LinkMetric, Qu
 
 -- ---- readings: 128 is how -128 stands in a byte
 
-pub level-missing : (z : ℤ) → SFits w8 z → of_z w8 z ≡ 128 → Missing ≡ levelOf z
-unfolding levelOf
-level-missing (pos n) f e = let l : n < 128 = f.sfits in absurd (omega arith)
-level-missing (negsuc n) f e = let k : n ≡ 127 = omega arith in rw (eq-eqb n 127 k, levelOf)
+pub level_missing : (z : ℤ) → SFits w8 z → of_z w8 z ≡ 128 → Missing ≡ level_of z
+unfolding level_of
+level_missing (pos n) f e = let l : n < 128 = f.sfits in absurd (omega arith)
+level_missing (negsuc n) f e = let k : n ≡ 127 = omega arith in rw (eq-eqb n 127 k, level_of)
 
-pub level-there : (z : ℤ) → SFits w8 z → (of_z w8 z ≡ 128 → ⊥) → (x : Float) → x ≡ quotient z 1 → Level x ≡ levelOf z
-unfolding levelOf
-level-there (pos n) f d x e = ap Level e
-level-there (negsuc n) f d x e = rw (ne_eqb n 127 (λ k. d (omega arith)), levelOf, e)
+pub level_there : (z : ℤ) → SFits w8 z → (of_z w8 z ≡ 128 → ⊥) → (x : Float) → x ≡ quotient z 1 → Level x ≡ level_of z
+unfolding level_of
+level_there (pos n) f d x e = ap Level e
+level_there (negsuc n) f d x e = rw (ne_eqb n 127 (λ k. d (omega arith)), level_of, e)
 
-pub rate-missing : (n : ℕ) → n ≡ 0 → Missing ≡ rateOf n
-unfolding rateOf
-rate-missing n e = rw e
+pub rate_missing : (n : ℕ) → n ≡ 0 → Missing ≡ rate_of n
+unfolding rate_of
+rate_missing n e = rw e
 
-pub rate-there : (n : ℕ) → (n ≡ 0 → ⊥) → (x : Float) → x ≡ quotient (pos n) 256 → Rate x ≡ rateOf n
-unfolding rateOf
-rate-there zero d x e = absurd (d refl)
-rate-there (suc n) d x e = ap Rate e
+pub rate_there : (n : ℕ) → (n ≡ 0 → ⊥) → (x : Float) → x ≡ quotient (pos n) 256 → Rate x ≡ rate_of n
+unfolding rate_of
+rate_there zero d x e = absurd (d refl)
+rate_there (suc n) d x e = ap Rate e
 
 -- ---- the type
 
 module _ (p : ℕ) (s : List ℕ) (k : ℕ) (e : k ≡ at s 0) where
-  pub is_one : k ≡ 1 → (t : opportunity.TxOp) → t ≡ opportunityOf s → good (TxOp t) ≡ typed p s
+  pub is_one : k ≡ 1 → (t : opportunity.TxOp) → t ≡ opportunity_of s → good (TxOp t) ≡ typed p s
   unfolding typed
   is_one a t f = rw (eq-eqb (at s 0) 1 (sym e ∙ a), typed, f)
 
   module _ (n1 : k ≡ 1 → ⊥) where
-    pub is-five : k ≡ 5 → (t : heartbeat.Heartbeat) → t ≡ heartbeatOf s → good (Heartbeat t) ≡ typed p s
+    pub is_five : k ≡ 5 → (t : heartbeat.Heartbeat) → t ≡ heartbeat_of s → good (Heartbeat t) ≡ typed p s
     unfolding typed
-    is-five a t f = rw (ne_eqb (at s 0) 1 (λ q. n1 (e ∙ q)), eq-eqb (at s 0) 5 (sym e ∙ a), typed, f)
+    is_five a t f = rw (ne_eqb (at s 0) 1 (λ q. n1 (e ∙ q)), eq-eqb (at s 0) 5 (sym e ∙ a), typed, f)
 
     module _ (n5 : k ≡ 5 → ⊥) where
-      pub is-six : k ≡ 6 → (t : metric.LinkMetric) → t ≡ metricOf s → good (LinkMetric t) ≡ typed p s
+      pub is-six : k ≡ 6 → (t : metric.LinkMetric) → t ≡ metric_of s → good (LinkMetric t) ≡ typed p s
       unfolding typed
       is-six a t f = rw (ne_eqb (at s 0) 1 (λ q. n1 (e ∙ q)), ne_eqb (at s 0) 5 (λ q. n5 (e ∙ q)), eq-eqb (at s 0) 6 (sym e ∙ a), typed, f)
 
       module _ (n6 : k ≡ 6 → ⊥) where
-        pub is-ten : k ≡ 10 → (t : report.QueueReport) → t ≡ reportOf s → good (QueueReport t) ≡ typed p s
+        pub is_ten : k ≡ 10 → (t : report.QueueReport) → t ≡ report_of s → good (QueueReport t) ≡ typed p s
         unfolding typed
-        is-ten a t f = rw (ne_eqb (at s 0) 1 (λ q. n1 (e ∙ q)), ne_eqb (at s 0) 5 (λ q. n5 (e ∙ q)), ne_eqb (at s 0) 6 (λ q. n6 (e ∙ q)), eq-eqb (at s 0) 10 (sym e ∙ a), typed, f)
+        is_ten a t f = rw (ne_eqb (at s 0) 1 (λ q. n1 (e ∙ q)), ne_eqb (at s 0) 5 (λ q. n5 (e ∙ q)), ne_eqb (at s 0) 6 (λ q. n6 (e ∙ q)), eq-eqb (at s 0) 10 (sym e ∙ a), typed, f)
 
         pub is-other : (k ≡ 10 → ⊥) → bad RADIO p ≡ typed p s
         unfolding typed
@@ -79,24 +79,24 @@ module _ (p : ℕ) (s : List ℕ) (k : ℕ) (e : k ≡ at s 0) where
 
 -- ---- the rules of a TLV
 
-module _ (t : Tlv) (s : List ℕ) (n k : ℕ) (en : n ≡ tlvSize t) (ek : k ≡ at s 1) where
-  pub wrong_size : (k ≡ n → ⊥) → false ≡ keepsRules t s
-  unfolding keepsRules
-  wrong_size d = rw (ne_eqb (at s 1) (tlvSize t) (λ q. d (ek ∙ q ∙ sym en)), keepsRules)
+module _ (t : Tlv) (s : List ℕ) (n k : ℕ) (en : n ≡ tlv_size t) (ek : k ≡ at s 1) where
+  pub wrong_size : (k ≡ n → ⊥) → false ≡ keeps_rules t s
+  unfolding keeps_rules
+  wrong_size d = rw (ne_eqb (at s 1) (tlv_size t) (λ q. d (ek ∙ q ∙ sym en)), keeps_rules)
 
   module _ (a : k ≡ n) where
-    pub cut_off : length s < n → false ≡ keepsRules t s
-    unfolding keepsRules
-    cut_off l = rw (eq-eqb (at s 1) (tlvSize t) (sym ek ∙ a ∙ en), lt-leb (tlvSize t) (length s) (omega arith), keepsRules)
+    pub cut_off : length s < n → false ≡ keeps_rules t s
+    unfolding keeps_rules
+    cut_off l = rw (eq-eqb (at s 1) (tlv_size t) (sym ek ∙ a ∙ en), lt-leb (tlv_size t) (length s) (omega arith), keeps_rules)
 
     module _ (l : n ≤ length s) where
-      pub not-fixed : fixedBytes t s ≡ false → false ≡ keepsRules t s
-      unfolding keepsRules
-      not-fixed f = rw (eq-eqb (at s 1) (tlvSize t) (sym ek ∙ a ∙ en), le-leb (tlvSize t) (length s) (omega arith), f, keepsRules)
+      pub not_fixed : fixed_bytes t s ≡ false → false ≡ keeps_rules t s
+      unfolding keeps_rules
+      not_fixed f = rw (eq-eqb (at s 1) (tlv_size t) (sym ek ∙ a ∙ en), le-leb (tlv_size t) (length s) (omega arith), f, keeps_rules)
 
-      pub in-ranges : fixedBytes t s ≡ true → tlvFits t ≡ keepsRules t s
-      unfolding keepsRules
-      in-ranges f = rw (eq-eqb (at s 1) (tlvSize t) (sym ek ∙ a ∙ en), le-leb (tlvSize t) (length s) (omega arith), f, keepsRules)
+      pub in_ranges : fixed_bytes t s ≡ true → tlv_fits t ≡ keeps_rules t s
+      unfolding keeps_rules
+      in_ranges f = rw (eq-eqb (at s 1) (tlv_size t) (sym ek ∙ a ∙ en), le-leb (tlv_size t) (length s) (omega arith), f, keeps_rules)
 
 -- ---- a TLV
 
@@ -106,33 +106,33 @@ module _ (p : ℕ) (s : List ℕ) where
   untyped e = sym (stop _ _ (sym e))
 
   module _ (t : Tlv) (e : good t ≡ typed p s) where
-    pub broken : keepsRules t s ≡ false → bad RADIO p ≡ tlv p s
+    pub broken : keeps_rules t s ≡ false → bad RADIO p ≡ tlv p s
     unfolding tlv
     broken f = sym (step _ _ (sym e) (halt _ _ _ _ (rw f)))
 
-    pub whole : keepsRules t s ≡ true → good (t, tlvSize t) ≡ tlv p s
+    pub whole : keeps_rules t s ≡ true → good (t, tlv_size t) ≡ tlv p s
     unfolding tlv
     whole f = sym (step _ _ (sym e) (pass _ _ _ _ (rw f) refl))
 
 -- ---- a step
 
 module _ (s : List ℕ) (p : ℕ) where
-  pub large : 65536 < length s → bad LARGE 65536 ≡ tlvAt s p
-  unfolding tlvAt
+  pub large : 65536 < length s → bad LARGE 65536 ≡ tlv_at s p
+  unfolding tlv_at
   large a = sym (halt _ _ _ _ (lt-ltb 65536 (length s) a))
 
   module _ (a : length s ≤ 65536) where
-    pub over : length s ≤ p → good none ≡ tlvAt s p
-    unfolding tlvAt
+    pub over : length s ≤ p → good none ≡ tlv_at s p
+    unfolding tlv_at
     over b = sym (pass _ _ _ _ (le-ltb 65536 (length s) a) (rw (le-leb (length s) p b)))
 
     module _ (b : p < length s) where
-      pub no-tlv : {n q : ℕ} → bad n q ≡ tlv p (take (length s - p) (drop p s)) → bad n q ≡ tlvAt s p
-      unfolding tlvAt
-      no-tlv e = sym (pass _ _ _ _ (le-ltb 65536 (length s) a) (rw (lt-leb (length s) p b) (stop _ _ (sym (rw rest at e)))))
+      pub no_tlv : {n q : ℕ} → bad n q ≡ tlv p (take (length s - p) (drop p s)) → bad n q ≡ tlv_at s p
+      unfolding tlv_at
+      no_tlv e = sym (pass _ _ _ _ (le-ltb 65536 (length s) a) (rw (lt-leb (length s) p b) (stop _ _ (sym (rw rest at e)))))
 
-      pub a-tlv : (t : Tlv) (n : ℕ) → n ≡ tlvSize t → good (t, tlvSize t) ≡ tlv p (take (length s - p) (drop p s)) → good (some (t, p + n)) ≡ tlvAt s p
-      unfolding tlvAt
+      pub a-tlv : (t : Tlv) (n : ℕ) → n ≡ tlv_size t → good (t, tlv_size t) ≡ tlv p (take (length s - p) (drop p s)) → good (some (t, p + n)) ≡ tlv_at s p
+      unfolding tlv_at
       a-tlv t n en e = sym (pass _ _ _ _ (le-ltb 65536 (length s) a) (rw (lt-leb (length s) p b) (step _ _ (sym (rw rest at e)) (rw en))))
 
 -- ---- a signed byte that is kept

@@ -23,10 +23,10 @@ exact s n k h l =
     (lt_of_lt_of_le (shl_lt 53 (1074 - k) h) (pow_mono w))
     (sym (mul_assoc n (2 ^ (1074 - k)) (2 ^ k) ∙ ap (λ (x : ℕ). n * x) (sym (pow-add 2 (1074 - k) k) ∙ ap (λ (x : ℕ). 2 ^ x) e)))
 
-pub quotient-exact : (z : ℤ) (k : ℕ) → nat_abs z < 2 ^ 53 → k ≤ 1074 → IsExactly (quotient z (2 ^ k)) z (2 ^ k)
+pub quotient_exact : (z : ℤ) (k : ℕ) → nat_abs z < 2 ^ 53 → k ≤ 1074 → IsExactly (quotient z (2 ^ k)) z (2 ^ k)
 unfolding quotient
-quotient-exact (pos n) k h l = exact false n k h l
-quotient-exact (negsuc n) k h l = exact true (suc n) k h l
+quotient_exact (pos n) k h l = exact false n k h l
+quotient_exact (negsuc n) k h l = exact true (suc n) k h l
 
 -- a double is one quotient alone
 value_same : (x : Float) (s t : Bool) (m n d : ℕ) → HasValue x s m d → HasValue x t n d → (s ≡ t) × (m ≡ n)

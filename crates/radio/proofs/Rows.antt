@@ -8,61 +8,61 @@ use lib.Dec.{eqb}
 use lib.IntN.{ℤ, pos, negsuc}
 use lib.Signed.{mag}
 use Rattle.radio.specs.Quotient.{quotient}
-use Rattle.radio.specs.Row.{levelOf, rateOf, linkRow, SaysLevel, SaysRate, Says}
+use Rattle.radio.specs.Row.{level_of, rate_of, link_row, SaysLevel, SaysRate, Says}
 use Rattle.radio.specs.Tlv.{FieldsFit}
 use Rattle.radio.specs.declared.LinkMetric.{LinkMetric}
 use Rattle.radio.specs.declared.LinkRow.{LinkRow}
 use Rattle.radio.specs.declared.Reading.{Reading}
 use Rattle.radio.specs.declared.Tlv.TheVariants as tlvs
 use Rattle.radio.specs.declared.Reading.TheVariants.{Missing, Level, Rate}
-use Rattle.radio.proofs.Quotients.{quotient-exact, exact_same}
+use Rattle.radio.proofs.Quotients.{quotient_exact, exact_same}
 
 apart : (m n : ℕ) → pos m ≡ negsuc n → ⊥
 apart m n e = let z : ◌≡◌ {A = ℕ} 0 1 = cc in omega arith
 
-negsuc-inj : {m n : ℕ} → negsuc m ≡ negsuc n → m ≡ n
-negsuc-inj e = cc
+negsuc_inj : {m n : ℕ} → negsuc m ≡ negsuc n → m ≡ n
+negsuc_inj e = cc
 
-says-level : (z : ℤ) → mag z < 128 → SaysLevel (levelOf z) z
-unfolding levelOf
-says-level (pos n) h = (apart n 127, quotient-exact (pos n) 0 (omega arith) (omega arith))
-says-level (negsuc n) h = go (eqb n 127) refl
+says_level : (z : ℤ) → mag z < 128 → SaysLevel (level_of z) z
+unfolding level_of
+says_level (pos n) h = (apart n 127, quotient_exact (pos n) 0 (omega arith) (omega arith))
+says_level (negsuc n) h = go (eqb n 127) refl
   where
     go : (b : Bool) → eqb n 127 ≡ b → SaysLevel (elim b [ true ↦ Missing | false ↦ Level (quotient (negsuc n) 1) ]) (negsuc n)
     go true e = ap negsuc (eqb-true n 127 e)
-    go false e = (λ d. eqb-false n 127 e (negsuc-inj d), quotient-exact (negsuc n) 0 (omega arith) (omega arith))
+    go false e = (λ d. eqb-false n 127 e (negsuc_inj d), quotient_exact (negsuc n) 0 (omega arith) (omega arith))
 
-says-rate : (n : ℕ) → n < 256 → SaysRate (rateOf n) n
-unfolding rateOf
-says-rate zero h = refl
-says-rate (suc n) h = (λ e. omega arith, quotient-exact (pos (suc n)) 8 (omega arith) (omega arith))
+says_rate : (n : ℕ) → n < 256 → SaysRate (rate_of n) n
+unfolding rate_of
+says_rate zero h = refl
+says_rate (suc n) h = (λ e. omega arith, quotient_exact (pos (suc n)) 8 (omega arith) (omega arith))
 
-pub row-exact : (m : LinkMetric) → FieldsFit (tlvs.LinkMetric m) → Says m (linkRow m)
-unfolding linkRow
-row-exact m (f, r, c, e) = record {
-  frequency = quotient-exact (pos m.frequency) 2 (omega arith) (omega arith);
-  rssi = says-level m.rssi r;
-  cinr = says-level m.cinr c;
-  errors = says-rate m.errors e;
+pub row_exact : (m : LinkMetric) → FieldsFit (tlvs.LinkMetric m) → Says m (link_row m)
+unfolding link_row
+row_exact m (f, r, c, e) = record {
+  frequency = quotient_exact (pos m.frequency) 2 (omega arith) (omega arith);
+  rssi = says_level m.rssi r;
+  cinr = says_level m.cinr c;
+  errors = says_rate m.errors e;
 }
 
 -- ---- a row tells link metrics apart
 
-same-level : (r : Reading) (y z : ℤ) → SaysLevel r y → SaysLevel r z → y ≡ z
-same-level Missing y z a b = a ∙ sym b
-same-level (Level x) y z a b = exact_same x y z 1 a.1 b.1
-same-level (Rate x) y z a b = absurd a
+same_level : (r : Reading) (y z : ℤ) → SaysLevel r y → SaysLevel r z → y ≡ z
+same_level Missing y z a b = a ∙ sym b
+same_level (Level x) y z a b = exact_same x y z 1 a.1 b.1
+same_level (Rate x) y z a b = absurd a
 
-same-rate : (r : Reading) (m n : ℕ) → SaysRate r m → SaysRate r n → m ≡ n
-same-rate Missing m n a b = a ∙ sym b
-same-rate (Level x) m n a b = absurd a
-same-rate (Rate x) m n a b = let e : pos m ≡ pos n = exact_same x (pos m) (pos n) 256 a.1 b.1 in cc
+same_rate : (r : Reading) (m n : ℕ) → SaysRate r m → SaysRate r n → m ≡ n
+same_rate Missing m n a b = a ∙ sym b
+same_rate (Level x) m n a b = absurd a
+same_rate (Rate x) m n a b = let e : pos m ≡ pos n = exact_same x (pos m) (pos n) 256 a.1 b.1 in cc
 
-pub row_apart : (m n : LinkMetric) → FieldsFit (tlvs.LinkMetric m) → FieldsFit (tlvs.LinkMetric n) → linkRow m ≡ linkRow n
+pub row_apart : (m n : LinkMetric) → FieldsFit (tlvs.LinkMetric m) → FieldsFit (tlvs.LinkMetric n) → link_row m ≡ link_row n
     → (m.frequency ≡ n.frequency) × (m.rssi ≡ n.rssi) × (m.cinr ≡ n.cinr) × (m.errors ≡ n.errors)
 row_apart m n f g e =
-    let r : LinkRow = linkRow m in
-    let a : Says m r = row-exact m f in
-    let b : Says n r = subst (Says n) (sym e) (row-exact n g) in
+    let r : LinkRow = link_row m in
+    let a : Says m r = row_exact m f in
+    let b : Says n r = subst (Says n) (sym e) (row_exact n g) in
     let q : pos m.frequency ≡ pos n.frequency = exact_same r.frequency (pos m.frequency) (pos n.frequency) 4 a.frequency b.frequency in
-    (cc, same-level r.rssi m.rssi n.rssi a.rssi b.rssi, same-level r.cinr m.cinr n.cinr a.cinr b.cinr, same-rate r.errors m.errors n.errors a.errors b.errors)
+    (cc, same_level r.rssi m.rssi n.rssi a.rssi b.rssi, same_level r.cinr m.cinr n.cinr a.cinr b.cinr, same_rate r.errors m.errors n.errors a.errors b.errors)

@@ -3,7 +3,7 @@ ghost use Rattle.std.specs.Prelude.{◌≡◌, true, ◌&&◌, [], leb, ◌+◌,
 ghost use Rattle.std.proofs.lemmas.List.Edits.{sets};
 ghost use Rattle.compose.specs.Told.{told};
 ghost use Rattle.radio.specs.Quotient.{quotient};
-ghost use Rattle.radio.specs.Row.{levelOf, rateOf, linkRow};
+ghost use Rattle.radio.specs.Row.{level_of, rate_of, link_row};
 ghost use Rattle.radio.specs.Tlv as tlvs;
 ghost use Rattle.radio.specs.Radio as rule;
 ghost use Rattle.radio.specs.Told as spec;
@@ -155,7 +155,7 @@ fn share(n: u8) -> f64
 }
 
 fn level_of(z: i8) -> Reading
-    ensures { result ≡ levelOf z }
+    ensures { result ≡ level_of z }
 {
     if z == -128 {
         return Reading::Missing;
@@ -164,7 +164,7 @@ fn level_of(z: i8) -> Reading
 }
 
 fn rate_of(n: u8) -> Reading
-    ensures { result ≡ rateOf n }
+    ensures { result ≡ rate_of n }
 {
     if n == 0 {
         return Reading::Missing;
@@ -174,7 +174,7 @@ fn rate_of(n: u8) -> Reading
 
 // The plotting tool's row of a link metric.
 pub fn row_of(m: LinkMetric) -> LinkRow
-    ensures { result ≡ linkRow m }
+    ensures { result ≡ link_row m }
 {
     let frequency = megahertz(m.frequency);
     let rssi = level_of(m.rssi);
@@ -202,7 +202,7 @@ fn wide16(x: u16) -> usize
 
 // The fields of a TLV of each type, at the start of s.
 fn opportunity_of(s: &[u8]) -> TxOp
-    ensures { result ≡ tlvs.opportunityOf s.now }
+    ensures { result ≡ tlvs.opportunity_of s.now }
 {
     let frequency = wire::half_at(s, 2);
     let id = wire::half_at(s, 5);
@@ -219,7 +219,7 @@ fn opportunity_of(s: &[u8]) -> TxOp
 }
 
 fn heartbeat_of(s: &[u8]) -> Heartbeat
-    ensures { result ≡ tlvs.heartbeatOf s.now }
+    ensures { result ≡ tlvs.heartbeat_of s.now }
 {
     let timeout = wire::half_at(s, 2);
     Heartbeat { timeout }
@@ -233,7 +233,7 @@ fn six_bits(w: u32) -> u8
 }
 
 fn metric_of(s: &[u8]) -> LinkMetric
-    ensures { result ≡ tlvs.metricOf s.now }
+    ensures { result ≡ tlvs.metric_of s.now }
 {
     let w = wire::word_at(s, 2);
     let seconds = six_bits(w / 1048576);
@@ -252,7 +252,7 @@ fn metric_of(s: &[u8]) -> LinkMetric
 }
 
 fn report_of(s: &[u8]) -> QueueReport
-    ensures { result ≡ tlvs.reportOf s.now }
+    ensures { result ≡ tlvs.report_of s.now }
 {
     let w = wire::word_at(s, 2);
     let seconds = six_bits(w / 16777216);
@@ -291,7 +291,7 @@ fn bad_tlv(place: usize) -> Found
 
 // The TLV at the start of s, which stands at place p, by its type alone.
 fn typed(s: &[u8], p: usize) -> Found
-    ensures { spec.toldTyped result ≡ tlvs.typed p s.now }
+    ensures { spec.told_typed result ≡ tlvs.typed p s.now }
 {
     let k = wire::byte_at(s, 0);
     if k == 1 {
@@ -314,7 +314,7 @@ fn typed(s: &[u8], p: usize) -> Found
 }
 
 fn size_of(t: Tlv) -> usize
-    ensures { (result ≡ tlvs.tlvSize t) × (result ≤ 27) }
+    ensures { (result ≡ tlvs.tlv_size t) × (result ≤ 27) }
 {
     match t {
         Tlv::TxOp(_) => 13,
@@ -344,7 +344,7 @@ fn in_minute(seconds: u8, micros: u32) -> bool
 
 // The fields of a TLV are within their ranges.
 fn fits(t: Tlv) -> bool
-    ensures { result ≡ tlvs.tlvFits t }
+    ensures { result ≡ tlvs.tlv_fits t }
 {
     match t {
         Tlv::TxOp(x) => in_second(x.start, x.stop),
@@ -356,7 +356,7 @@ fn fits(t: Tlv) -> bool
 
 // The bytes at the start of s that are neither a field nor reserved bits.
 fn fixed(t: Tlv, s: &[u8]) -> bool
-    ensures { result ≡ tlvs.fixedBytes t s.now }
+    ensures { result ≡ tlvs.fixed_bytes t s.now }
 {
     match t {
         Tlv::TxOp(_) => wire::byte_at(s, 4) == 128,
@@ -367,7 +367,7 @@ fn fixed(t: Tlv, s: &[u8]) -> bool
 }
 
 fn keeps(t: Tlv, s: &[u8]) -> bool
-    ensures { result ≡ tlvs.keepsRules t s.now }
+    ensures { result ≡ tlvs.keeps_rules t s.now }
 {
     let n = size_of(t);
     let k = wire::byte_at(s, 1) as usize;
@@ -385,7 +385,7 @@ fn keeps(t: Tlv, s: &[u8]) -> bool
 
 // The TLV at the start of s, which stands at place p.
 fn tlv_here(s: &[u8], p: usize) -> Found
-    ensures { spec.toldFound result ≡ tlvs.tlv p s.now }
+    ensures { spec.told_found result ≡ tlvs.tlv p s.now }
 {
     match typed(s, p) {
         Found::Refused(x) => Found::Refused(x),
@@ -400,7 +400,7 @@ fn tlv_here(s: &[u8], p: usize) -> Found
 
 // What stands at place `at` of a message; its first TLV stands at 10.
 pub fn tlv_at(s: &[u8], at: usize) -> TlvRead
-    ensures { spec.toldTlv result ≡ rule.tlvAt s.now at }
+    ensures { spec.told_tlv result ≡ rule.tlv_at s.now at }
 {
     if 65536 < s.len() {
         return TlvRead::Refused(Refusal {
@@ -423,7 +423,7 @@ pub fn tlv_at(s: &[u8], at: usize) -> TlvRead
 // How many TLVs a run holds, which stands at place 10 of a message.
 fn count_tlvs(run: &[u8]) -> Count
     requires { length run.now ≤ 65536 }
-    ensures { spec.toldCount result ≡ spec.tlvCount run.now }
+    ensures { spec.told_count result ≡ spec.tlv_count run.now }
 {
     let mut i = 0;
     let mut n = 0;
@@ -462,7 +462,7 @@ fn unread(why: Why, place: usize) -> RadioRead
 
 // Reads the message that is the whole of s.
 pub fn read(s: &[u8]) -> RadioRead
-    ensures { spec.toldRadio result ≡ rule.radioRead s.now }
+    ensures { spec.told_radio result ≡ rule.radio_read s.now }
 {
     if 65536 < s.len() {
         return unread(Why::Large, 65536);
@@ -493,8 +493,8 @@ fn low_byte(x: u32) -> u8
 
 // Stores a TLV of each type at the start of `out`.
 fn put_opportunity(out: &mut [u8], t: TxOp)
-    requires { tlvs.tlvFits (Tlv.TxOp t) ≡ true }
-    ensures { out.new ≡ sets out.old 0 (tlvs.tlvBytes (Tlv.TxOp t)) }
+    requires { tlvs.tlv_fits (Tlv.TxOp t) ≡ true }
+    ensures { out.new ≡ sets out.old 0 (tlvs.tlv_bytes (Tlv.TxOp t)) }
 {
     wire::put_half(out, 0, 269);
     wire::put_half(out, 2, t.frequency);
@@ -506,15 +506,15 @@ fn put_opportunity(out: &mut [u8], t: TxOp)
 }
 
 fn put_heartbeat(out: &mut [u8], t: Heartbeat)
-    ensures { out.new ≡ sets out.old 0 (tlvs.tlvBytes (Tlv.Heartbeat t)) }
+    ensures { out.new ≡ sets out.old 0 (tlvs.tlv_bytes (Tlv.Heartbeat t)) }
 {
     wire::put_half(out, 0, 1284);
     wire::put_half(out, 2, t.timeout);
 }
 
 fn put_metric(out: &mut [u8], t: LinkMetric)
-    requires { tlvs.tlvFits (Tlv.LinkMetric t) ≡ true }
-    ensures { out.new ≡ sets out.old 0 (tlvs.tlvBytes (Tlv.LinkMetric t)) }
+    requires { tlvs.tlv_fits (Tlv.LinkMetric t) ≡ true }
+    ensures { out.new ≡ sets out.old 0 (tlvs.tlv_bytes (Tlv.LinkMetric t)) }
 {
     wire::put_half(out, 0, 1547);
     wire::put_word(out, 2, wide8(t.seconds) * 1048576 + t.micros);
@@ -526,8 +526,8 @@ fn put_metric(out: &mut [u8], t: LinkMetric)
 
 // The first 11 bytes of a queue report, and four queue levels at a place.
 fn put_report_front(out: &mut [u8], t: QueueReport)
-    requires { tlvs.tlvFits (Tlv.QueueReport t) ≡ true }
-    ensures { out.new ≡ sets out.old 0 (spec.reportFront t) }
+    requires { tlvs.tlv_fits (Tlv.QueueReport t) ≡ true }
+    ensures { out.new ≡ sets out.old 0 (spec.report_front t) }
 {
     wire::put_half(out, 0, 2587);
     wire::put_word(out, 2, wide8(t.seconds) * 16777216 + t.micros);
@@ -536,7 +536,7 @@ fn put_report_front(out: &mut [u8], t: QueueReport)
 }
 
 fn put_low_levels(out: &mut [u8], t: QueueReport)
-    ensures { out.new ≡ sets out.old 11 (spec.lowLevels t) }
+    ensures { out.new ≡ sets out.old 11 (spec.low_levels t) }
 {
     wire::put_half(out, 11, t.level0);
     wire::put_half(out, 13, t.level1);
@@ -545,7 +545,7 @@ fn put_low_levels(out: &mut [u8], t: QueueReport)
 }
 
 fn put_high_levels(out: &mut [u8], t: QueueReport)
-    ensures { out.new ≡ sets out.old 19 (spec.highLevels t) }
+    ensures { out.new ≡ sets out.old 19 (spec.high_levels t) }
 {
     wire::put_half(out, 19, t.level4);
     wire::put_half(out, 21, t.level5);
@@ -554,8 +554,8 @@ fn put_high_levels(out: &mut [u8], t: QueueReport)
 }
 
 fn put_report(out: &mut [u8], t: QueueReport)
-    requires { tlvs.tlvFits (Tlv.QueueReport t) ≡ true }
-    ensures { out.new ≡ sets out.old 0 (tlvs.tlvBytes (Tlv.QueueReport t)) }
+    requires { tlvs.tlv_fits (Tlv.QueueReport t) ≡ true }
+    ensures { out.new ≡ sets out.old 0 (tlvs.tlv_bytes (Tlv.QueueReport t)) }
 {
     put_report_front(out, t);
     put_low_levels(out, t);
@@ -564,8 +564,8 @@ fn put_report(out: &mut [u8], t: QueueReport)
 
 // Stores a TLV at the start of `out`.
 fn put_first(out: &mut [u8], t: Tlv)
-    requires { tlvs.tlvFits t ≡ true }
-    ensures { out.new ≡ sets out.old 0 (tlvs.tlvBytes t) }
+    requires { tlvs.tlv_fits t ≡ true }
+    ensures { out.new ≡ sets out.old 0 (tlvs.tlv_bytes t) }
 {
     match t {
         Tlv::TxOp(x) => put_opportunity(out, x),
@@ -583,7 +583,7 @@ fn unwritten(why: Why, place: usize) -> Written
 
 // Puts the TLV of a record at place `at` of `out`, for a run of TLVs that is made one by one.
 pub fn put_tlv(t: Tlv, out: &mut [u8], at: usize) -> Written
-    ensures { told result out.new ≡ rule.tlvWriter t at out.old }
+    ensures { told result out.new ≡ rule.tlv_writer t at out.old }
 {
     let n = size_of(t);
     if 65536 < at {
@@ -622,7 +622,7 @@ fn put_next(out: &mut [u8], run: &[u8], at: usize) -> usize
 fn put_run(out: &mut [u8], run: &[u8])
     requires checked { spec.Checked run.now }
     requires run_in_bounds { length run.now ≤ length out.old }
-    ensures { out.new ≡ sets out.old 0 (spec.runOutcome run.now) }
+    ensures { out.new ≡ sets out.old 0 (spec.run_outcome run.now) }
 {
     let mut i = 0;
     while i < run.len() {
@@ -641,7 +641,7 @@ fn narrow(n: usize) -> u16
 // Stores the header in front of n bytes of TLVs.
 fn put_head(out: &mut [u8], h: Head, n: usize)
     requires { 8 + n < 65536 }
-    ensures { out.new ≡ sets out.old 0 (rule.headBytes h n []) }
+    ensures { out.new ≡ sets out.old 0 (rule.head_bytes h n []) }
 {
     wire::put_half(out, 0, narrow(8 + n));
     wire::put_half(out, 2, h.destination);
@@ -652,7 +652,7 @@ fn put_head(out: &mut [u8], h: Head, n: usize)
 // A message whose run was checked, written where there is room for it.
 fn finish(h: Head, run: &[u8], out: &mut [u8]) -> Written
     requires { spec.Checked run.now }
-    ensures { told result out.new ≡ rule.radioWriter h run.now out.old }
+    ensures { told result out.new ≡ rule.radio_writer h run.now out.old }
 {
     let n = 10 + run.len();
     if out.len() < n {
@@ -665,7 +665,7 @@ fn finish(h: Head, run: &[u8], out: &mut [u8]) -> Written
 
 // Writes a message from its header's numbers and a run of TLVs.
 pub fn write(h: Head, run: &[u8], out: &mut [u8]) -> Written
-    ensures { told result out.new ≡ rule.radioWriter h run.now out.old }
+    ensures { told result out.new ≡ rule.radio_writer h run.now out.old }
 {
     if 65526 < run.len() {
         return unwritten(Why::Large, 65536);

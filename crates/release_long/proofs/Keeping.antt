@@ -14,18 +14,18 @@ use Rattle.numbered.specs.declared.Answer.{Answer}
 use Rattle.numbered.specs.declared.Answer.TheVariants.{Done, Refused}
 use Rattle.refusal.specs.declared.Why.{Why}
 use Rattle.refusal.specs.declared.Refusal.{Refusal}
-use Rattle.step.specs.Step.{step, measuredStep, output, consumed}
+use Rattle.step.specs.Step.{step, measured_step, output, consumed}
 use Rattle.step.specs.Claims.{StateFits, Run, rest, next}
-use Rattle.step.specs.Told.{stateIn, told, toldMeasured}
+use Rattle.step.specs.Told.{state_in, told, told_measured}
 use Rattle.step.specs.declared.State.{State}
 use Rattle.step.specs.declared.Stepped.{Stepped}
 use Rattle.step.proofs.Steps.{done, handles, fits_after}
 use Rattle.step.proofs.Claims.{measured-step}
-use Rattle.windows.specs.Window.{handedOver}
-use Rattle.windows.specs.Told.{toldHanded}
+use Rattle.windows.specs.Window.{handed_over}
+use Rattle.windows.specs.Told.{told_handed}
 use Rattle.windows.specs.declared.Handed.{Handed}
 use Rattle.windows.specs.declared.Handed.TheVariants as handed
-use Rattle.windows.proofs.Windows.{hands-over}
+use Rattle.windows.proofs.Windows.{hands_over}
 use Rattle.files.specs.Filled.{within, below}
 use Rattle.files.specs.declared.Filled.{Filled}
 use Rattle.files.specs.declared.Filled.TheVariants as file
@@ -34,7 +34,7 @@ use Rattle.release_long.specs.declared.Turn.{Turn}
 use Rattle.release_long.specs.declared.Turn.TheVariants as turn
 use Rattle.release_long.specs.declared.Turned.{Turned}
 use Rattle.release_long.specs.declared.Pass.TheVariants as pass
-use Rattle.release_long.specs.Keeps.{fresh, Steps, Follows, Led, Onward, ifDone, ifTaken, steppedOn, turnedOn, passedOn}
+use Rattle.release_long.specs.Keeps.{fresh, Steps, Follows, Led, Onward, if_done, if_taken, stepped_on, turned_on, passed_on}
 
 -- ---- runs of steps
 
@@ -57,8 +57,8 @@ steps-append sheet a b c m n k z s t = record {
   long = omega (arith, length-append s.all t.all, s.long, t.long, z);
 }
 
-pub led-none : (sheet : List ℕ) (writes : Bool) (a : rule.State) → StateFits a → Led sheet writes a a 0
-led-none sheet writes a fits = record { end = a; fits = fits; follows = same writes; steps = steps-none sheet a }
+pub led_none : (sheet : List ℕ) (writes : Bool) (a : rule.State) → StateFits a → Led sheet writes a a 0
+led_none sheet writes a fits = record { end = a; fits = fits; follows = same writes; steps = steps-none sheet a }
   where
     same : (b : Bool) → Follows b a a
     same true = refl
@@ -109,8 +109,8 @@ written part sheet buffer before l e = record {
 }
 
 -- measured alone, from any with the same ids: a buffer of so many bytes has room
-alone : (part sheet : List ℕ) (before : rule.State) → Bytes part → length part ≤ 65536 → (measuredStep part sheet 65537 before).0.number ≡ 0
-    → Onward sheet false before (measuredStep part sheet 65537 before).1 (length part)
+alone : (part sheet : List ℕ) (before : rule.State) → Bytes part → length part ≤ 65536 → (measured_step part sheet 65537 before).0.number ≡ 0
+    → Onward sheet false before (measured_step part sheet 65537 before).1 (length part)
 alone part sheet before bytes l e = record {
   few = l;
   leads = λ from fits same.
@@ -130,68 +130,68 @@ fresh-fits = record { ids = refl; next = refl; below = zeros 64 }
     zeros (suc n) zero = omega arith
     zeros (suc n) (suc k) = zeros n k
 
-pub stepped-on : (part sheet buffer after : List ℕ) (state : State) (r : Stepped) (writes : Bool) → writes ≡ true → length part ≤ 65536
-    → told r after ≡ step part sheet 65537 (stateIn state) buffer → steppedOn sheet writes part (stateIn state) r
-unfolding steppedOn
-stepped-on part sheet buffer after state r writes w l e = go r.answer (stateIn r.state) e
+pub stepped_on_lem : (part sheet buffer after : List ℕ) (state : State) (r : Stepped) (writes : Bool) → writes ≡ true → length part ≤ 65536
+    → told r after ≡ step part sheet 65537 (state_in state) buffer → stepped_on sheet writes part (state_in state) r
+unfolding stepped_on
+stepped_on_lem part sheet buffer after state r writes w l e = go r.answer (state_in r.state) e
   where
-    go : (a : Answer) (end : rule.State) → ◌≡◌ {A = Report × rule.State × List ℕ} (report a, end, after) (step part sheet 65537 (stateIn state) buffer) → ifDone a (Onward sheet writes (stateIn state) end (length part))
+    go : (a : Answer) (end : rule.State) → ◌≡◌ {A = Report × rule.State × List ℕ} (report a, end, after) (step part sheet 65537 (state_in state) buffer) → if_done a (Onward sheet writes (state_in state) end (length part))
     go (Done p) end q =
-        let number : (step part sheet 65537 (stateIn state) buffer).0.number ≡ 0 = ap (λ (x : Report × rule.State × List ℕ). x.0.number) (sym q) in
-        let same : (step part sheet 65537 (stateIn state) buffer).1 ≡ end = ap (λ (x : Report × rule.State × List ℕ). x.1) (sym q) in
-        subst (λ (s : rule.State). Onward sheet writes (stateIn state) s (length part)) same
-        (subst (λ (b : Bool). Onward sheet b (stateIn state) (step part sheet 65537 (stateIn state) buffer).1 (length part)) (sym w) (written part sheet buffer (stateIn state) l number))
+        let number : (step part sheet 65537 (state_in state) buffer).0.number ≡ 0 = ap (λ (x : Report × rule.State × List ℕ). x.0.number) (sym q) in
+        let same : (step part sheet 65537 (state_in state) buffer).1 ≡ end = ap (λ (x : Report × rule.State × List ℕ). x.1) (sym q) in
+        subst (λ (s : rule.State). Onward sheet writes (state_in state) s (length part)) same
+        (subst (λ (b : Bool). Onward sheet b (state_in state) (step part sheet 65537 (state_in state) buffer).1 (length part)) (sym w) (written part sheet buffer (state_in state) l number))
     go (Refused f) end q = tt
 
 pub measured-on : (part sheet : List ℕ) (state : State) (r : Stepped) (writes : Bool) → writes ≡ false → Bytes part → length part ≤ 65536
-    → toldMeasured r ≡ measuredStep part sheet 65537 (stateIn state) → steppedOn sheet writes part (stateIn state) r
-unfolding steppedOn
-measured-on part sheet state r writes w bytes l e = go r.answer (stateIn r.state) e
+    → told_measured r ≡ measured_step part sheet 65537 (state_in state) → stepped_on sheet writes part (state_in state) r
+unfolding stepped_on
+measured-on part sheet state r writes w bytes l e = go r.answer (state_in r.state) e
   where
-    go : (a : Answer) (end : rule.State) → ◌≡◌ {A = Report × rule.State} (report a, end) (measuredStep part sheet 65537 (stateIn state)) → ifDone a (Onward sheet writes (stateIn state) end (length part))
+    go : (a : Answer) (end : rule.State) → ◌≡◌ {A = Report × rule.State} (report a, end) (measured_step part sheet 65537 (state_in state)) → if_done a (Onward sheet writes (state_in state) end (length part))
     go (Done p) end q =
-        let number : (measuredStep part sheet 65537 (stateIn state)).0.number ≡ 0 = ap (λ (x : Report × rule.State). x.0.number) (sym q) in
-        let same : (measuredStep part sheet 65537 (stateIn state)).1 ≡ end = ap (λ (x : Report × rule.State). x.1) (sym q) in
-        subst (λ (s : rule.State). Onward sheet writes (stateIn state) s (length part)) same
-        (subst (λ (b : Bool). Onward sheet b (stateIn state) (measuredStep part sheet 65537 (stateIn state)).1 (length part)) (sym w) (alone part sheet (stateIn state) bytes l number))
+        let number : (measured_step part sheet 65537 (state_in state)).0.number ≡ 0 = ap (λ (x : Report × rule.State). x.0.number) (sym q) in
+        let same : (measured_step part sheet 65537 (state_in state)).1 ≡ end = ap (λ (x : Report × rule.State). x.1) (sym q) in
+        subst (λ (s : rule.State). Onward sheet writes (state_in state) s (length part)) same
+        (subst (λ (b : Bool). Onward sheet b (state_in state) (measured_step part sheet 65537 (state_in state)).1 (length part)) (sym w) (alone part sheet (state_in state) bytes l number))
     go (Refused f) end q = tt
 
-pub taken-on : (sheet part : List ℕ) (writes : Bool) (before : rule.State) (r : Stepped) (p : Progress) → r.answer ≡ Done p → steppedOn sheet writes part before r
-    → turnedOn sheet writes before (record { turn = turn.Taken (length part) p; state = r.state })
-unfolding steppedOn turnedOn
-taken-on sheet part writes before r p e h = subst (λ (a : Answer). ifDone a (Onward sheet writes before (stateIn r.state) (length part))) e h
+pub taken-on : (sheet part : List ℕ) (writes : Bool) (before : rule.State) (r : Stepped) (p : Progress) → r.answer ≡ Done p → stepped_on sheet writes part before r
+    → turned_on sheet writes before (record { turn = turn.Taken (length part) p; state = r.state })
+unfolding stepped_on turned_on
+taken-on sheet part writes before r p e h = subst (λ (a : Answer). if_done a (Onward sheet writes before (state_in r.state) (length part))) e h
 
-pub refused-on : (sheet : List ℕ) (writes : Bool) (before : rule.State) (f : Refusal) (state : State) → turnedOn sheet writes before (record { turn = turn.Refused f; state = state })
-unfolding turnedOn
+pub refused-on : (sheet : List ℕ) (writes : Bool) (before : rule.State) (f : Refusal) (state : State) → turned_on sheet writes before (record { turn = turn.Refused f; state = state })
+unfolding turned_on
 refused-on sheet writes before f state = tt
 
-pub unread-on : (sheet : List ℕ) (writes : Bool) (before : rule.State) (state : State) → turnedOn sheet writes before (record { turn = turn.Unread; state = state })
-unfolding turnedOn
+pub unread-on : (sheet : List ℕ) (writes : Bool) (before : rule.State) (state : State) → turned_on sheet writes before (record { turn = turn.Unread; state = state })
+unfolding turned_on
 unread-on sheet writes before state = tt
 
 -- what is handed over lies in the window
-pub handed-inside : (goesOn : Bool) (window : List ℕ) (h : Handed) (n : ℕ) → h ≡ handed.Bytes n → toldHanded h ≡ handedOver goesOn window → n ≤ length window
-handed-inside goesOn window h n e f = (hands-over goesOn window n (sym (ap toldHanded (sym e) ∙ f))).inside
+pub handed-inside : (goesOn : Bool) (window : List ℕ) (h : Handed) (n : ℕ) → h ≡ handed.Bytes n → told_handed h ≡ handed_over goesOn window → n ≤ length window
+handed-inside goesOn window h n e f = (hands_over goesOn window n (sym (ap told_handed (sym e) ∙ f))).inside
 
 -- a turn that takes bytes
-pub taken : (sheet : List ℕ) (writes : Bool) (before : rule.State) (r : Turned) (n : ℕ) (p : Progress) → r.turn ≡ turn.Taken n p → turnedOn sheet writes before r → Onward sheet writes before (stateIn r.state) n
-unfolding turnedOn
-taken sheet writes before r n p e h = subst (λ (t : Turn). ifTaken t (Onward sheet writes before (stateIn r.state))) e h
+pub taken : (sheet : List ℕ) (writes : Bool) (before : rule.State) (r : Turned) (n : ℕ) (p : Progress) → r.turn ≡ turn.Taken n p → turned_on sheet writes before r → Onward sheet writes before (state_in r.state) n
+unfolding turned_on
+taken sheet writes before r n p e h = subst (λ (t : Turn). if_taken t (Onward sheet writes before (state_in r.state))) e h
 
-pub whole-on : (sheet : List ℕ) (writes : Bool) (d : reached.Done) (kept : rule.State) → Led sheet writes fresh kept d.place → passedOn sheet (pass.Whole d)
-unfolding passedOn
+pub whole-on : (sheet : List ℕ) (writes : Bool) (d : reached.Done) (kept : rule.State) → Led sheet writes fresh kept d.place → passed_on sheet (pass.Whole d)
+unfolding passed_on
 whole-on sheet writes d kept s = (s.end, s.steps)
 
-pub passed-refused : (sheet : List ℕ) (why : Why) (place : ℕ) → passedOn sheet (pass.Refused why place)
-unfolding passedOn
+pub passed-refused : (sheet : List ℕ) (why : Why) (place : ℕ) → passed_on sheet (pass.Refused why place)
+unfolding passed_on
 passed-refused sheet why place = tt
 
-pub passed-unread : (sheet : List ℕ) → passedOn sheet pass.Unread
-unfolding passedOn
+pub passed-unread : (sheet : List ℕ) → passed_on sheet pass.Unread
+unfolding passed_on
 passed-unread sheet = tt
 
-pub passed-unwritten : (sheet : List ℕ) → passedOn sheet pass.Unwritten
-unfolding passedOn
+pub passed-unwritten : (sheet : List ℕ) → passed_on sheet pass.Unwritten
+unfolding passed_on
 passed-unwritten sheet = tt
 
 -- what was read lies in the buffer, and what was counted is not too much

@@ -4,7 +4,7 @@ use Rattle.numbered.specs.Numbering as rule
 use Rattle.numbered.specs.declared.Answer.{Answer}
 use Rattle.numbered.specs.declared.Answer.TheVariants.{Done, Refused}
 use Rattle.step.specs.Claims.{StateFits, SameIds, Run}
-use Rattle.step.specs.Told.{stateIn}
+use Rattle.step.specs.Told.{state_in}
 use Rattle.step.specs.declared.Stepped.{Stepped}
 use Rattle.release_long.specs.declared.Turn.{Turn}
 use Rattle.release_long.specs.declared.Turn.TheVariants as turn
@@ -24,20 +24,20 @@ pub record Steps (sheet : List ℕ) (from to : rule.State) (bytes : ℕ) : Type 
   pub long : length all ≡ bytes
 
 -- a fact that holds where a step is done, where a turn takes bytes, and where a pass goes over the whole recording
-abbrev pub ifDone : Answer → Type 0 → Type 0
-ifDone (Done p) fact = fact
-ifDone (Refused f) fact = Unit {0}
+abbrev pub if_done : Answer → Type 0 → Type 0
+if_done (Done p) fact = fact
+if_done (Refused f) fact = Unit {0}
 
-abbrev pub ifTaken : Turn → (ℕ → Type 0) → Type 0
-ifTaken (turn.Taken n p) fact = fact n
-ifTaken (turn.Refused f) fact = Unit {0}
-ifTaken turn.Unread fact = Unit {0}
+abbrev pub if_taken : Turn → (ℕ → Type 0) → Type 0
+if_taken (turn.Taken n p) fact = fact n
+if_taken (turn.Refused f) fact = Unit {0}
+if_taken turn.Unread fact = Unit {0}
 
-abbrev pub ifWhole : Pass → (ℕ → Type 0) → Type 0
-ifWhole (pass.Whole d) fact = fact d.place
-ifWhole (pass.Refused why place) fact = Unit {0}
-ifWhole pass.Unread fact = Unit {0}
-ifWhole pass.Unwritten fact = Unit {0}
+abbrev pub if_whole : Pass → (ℕ → Type 0) → Type 0
+if_whole (pass.Whole d) fact = fact d.place
+if_whole (pass.Refused why place) fact = Unit {0}
+if_whole pass.Unread fact = Unit {0}
+if_whole pass.Unwritten fact = Unit {0}
 
 -- a pass that writes keeps the very state that steps lead to; one that measures alone, its ids
 abbrev pub Follows : Bool → rule.State → rule.State → Type 0
@@ -57,13 +57,13 @@ pub record Onward (sheet : List ℕ) (writes : Bool) (before after : rule.State)
   pub leads : (from : rule.State) → StateFits from → Follows writes from before → Led sheet writes from after bytes
 
 -- a step over a part, where it is done, takes all of its bytes
-unfoldable pub steppedOn : List ℕ → Bool → List ℕ → rule.State → Stepped → Type 0
-steppedOn sheet writes part before r = ifDone r.answer (Onward sheet writes before (stateIn r.state) (length part))
+unfoldable pub stepped_on : List ℕ → Bool → List ℕ → rule.State → Stepped → Type 0
+stepped_on sheet writes part before r = if_done r.answer (Onward sheet writes before (state_in r.state) (length part))
 
 -- a turn takes its bytes in steps
-unfoldable pub turnedOn : List ℕ → Bool → rule.State → Turned → Type 0
-turnedOn sheet writes before r = ifTaken r.turn (Onward sheet writes before (stateIn r.state))
+unfoldable pub turned_on : List ℕ → Bool → rule.State → Turned → Type 0
+turned_on sheet writes before r = if_taken r.turn (Onward sheet writes before (state_in r.state))
 
 -- a pass over the whole recording is a run of steps from a state in which no id is held
-unfoldable pub passedOn : List ℕ → Pass → Type 0
-passedOn sheet r = ifWhole r (λ n. (end : rule.State) × Steps sheet fresh end n)
+unfoldable pub passed_on : List ℕ → Pass → Type 0
+passed_on sheet r = if_whole r (λ n. (end : rule.State) × Steps sheet fresh end n)

@@ -2,8 +2,8 @@
 // recording twice, window by window, in steps: the first time they are only measured, and the second time written, if none was refused. At the end a line on
 // standard error says what was done. Where a third argument says the recording's size, a line on standard error tells how far it is.
 ghost use Rattle.std.specs.Prelude.{◌≡◌, ℕ, ◌+◌, ◌≤◌, List, length};
-ghost use Rattle.step.specs.Told.{stateIn};
-ghost use Rattle.release_long.specs.Keeps.{fresh, steppedOn, turnedOn, passedOn};
+ghost use Rattle.step.specs.Told.{state_in};
+ghost use Rattle.release_long.specs.Keeps.{fresh, stepped_on, turned_on, passed_on};
 
 use files::{Filled, Opened};
 use libc::{STDERR_FILENO, STDOUT_FILENO};
@@ -15,7 +15,7 @@ use windows::Handed;
 
 // No id is held.
 fn no_ids() -> State
-    ensures { stateIn result ≡ fresh }
+    ensures { state_in result ≡ fresh }
 {
     State {
         ids: [0; 64],
@@ -27,7 +27,7 @@ fn no_ids() -> State
 // A step over whole messages, measured alone where it does not write: all of them are taken, since the quota is above their bytes.
 fn step_over(part: &[u8], sheet: &[u8], state: State, writes: bool, out: &mut [u8]) -> Stepped
     requires { length part.now ≤ 65536 }
-    ensures { steppedOn sheet.now writes part.now (stateIn state) result }
+    ensures { stepped_on sheet.now writes part.now (state_in state) result }
 {
     if writes {
         return step::step(part, sheet, 65537, state, out);
@@ -53,7 +53,7 @@ struct Turned {
 // Whole messages of a window, in a step.
 fn take_part(part: &[u8], sheet: &[u8], state: State, writes: bool, out: &mut [u8]) -> Turned
     requires { length part.now ≤ 65536 }
-    ensures { turnedOn sheet.now writes (stateIn state) result }
+    ensures { turned_on sheet.now writes (state_in state) result }
 {
     let stepped = step_over(part, sheet, state, writes, out);
     let after = stepped.state;
@@ -80,7 +80,7 @@ fn hand_window(
     out: &mut [u8],
 ) -> Turned
     requires { length window.now ≤ 65536 }
-    ensures { turnedOn sheet.now writes (stateIn state) result }
+    ensures { turned_on sheet.now writes (state_in state) result }
 {
     let handed = windows::hand_over(window, goes_on);
     match handed {
@@ -110,7 +110,7 @@ fn take_window(
     out: &mut [u8],
 ) -> Turned
     requires { length window.now ≤ 65536 }
-    ensures { turnedOn sheet.now writes (stateIn state) result }
+    ensures { turned_on sheet.now writes (state_in state) result }
 {
     if !goes_on {
         return hand_window(window, false, sheet, state, writes, out);
@@ -134,7 +134,7 @@ fn take_read(
     out: &mut [u8],
 ) -> Turned
     requires { n ≤ length window.now }
-    ensures { turnedOn sheet.now writes (stateIn state) result }
+    ensures { turned_on sheet.now writes (state_in state) result }
 {
     if n <= 65536 {
         return take_window(&window[..n], false, sheet, state, writes, out);
@@ -152,7 +152,7 @@ fn take_turn(
     window: &mut [u8],
     out: &mut [u8],
 ) -> Turned
-    ensures { turnedOn sheet.now writes (stateIn state) result }
+    ensures { turned_on sheet.now writes (state_in state) result }
 {
     let got = files::fill_from(recording, place, window);
     let Filled::Bytes(n) = got else {
@@ -305,7 +305,7 @@ fn end_line(t: Tells) {
 
 // The pass whose turn at this place is refused or unread.
 fn stopped(turn: Turn, place: u64) -> Pass
-    ensures { (sheet : List ℕ) → passedOn sheet result }
+    ensures { (sheet : List ℕ) → passed_on sheet result }
 {
     match turn {
         Turn::Refused(f) => {
@@ -319,7 +319,7 @@ fn stopped(turn: Turn, place: u64) -> Pass
 // Goes over the recording from its first byte, turn by turn; one that takes nothing is the end. Each is lent what is left of the buffer in which the copy is
 // gathered. A proved loop has to end: the turns are more than any recording takes.
 fn go_over(recording: i32, sheet: &[u8], writes: bool, tells: Tells) -> Pass
-    ensures { passedOn sheet.now result }
+    ensures { passed_on sheet.now result }
 {
     let mut window = [0u8; 65537];
     let mut out = [0u8; 524288];

@@ -8,16 +8,16 @@ use borrow.Author.Tests.{eq-eqb, le-ltb}
 use lib.ListN.{length, drop, length-append, length-map}
 use lib.Seq.{take-append_seam, drop-append_seam, drop-drop}
 use Rattle.rules.specs.Outcome.{good}
-use Rattle.rules.specs.Bytes.{at, word, pad, padded, part, join, oneIfAny}
-use Rattle.rules.specs.Options.{countSaid}
+use Rattle.rules.specs.Bytes.{at, word, pad, padded, part, join, one_if_any}
+use Rattle.rules.specs.Options.{count_said}
 use Rattle.rules.specs.Packages.{Package, cut, piece_of}
-use Rattle.rules.specs.Message.{Head, head, payloadStart, checksOneToSix, optionRunLength, checksEightAndNine, checksOneToNine, checksOneToTen, everyCheck, Message, recordOf, message}
+use Rattle.rules.specs.Message.{Head, head, payload_start, checks_one_to_six, option_run_length, checks_eight_and_nine, checks_one_to_nine, checks_one_to_ten, every_check, Message, record_of, message}
 use Rattle.rules.specs.Writer.{write}
 use Rattle.rules.specs.Valid.{Valid}
-use Rattle.rules.proofs.Outcomes.{pass, pass-last, after, step}
+use Rattle.rules.proofs.Outcomes.{pass, pass_last, after, step}
 use Rattle.rules.proofs.Numbers.{word-put32}
 use Rattle.rules.proofs.Cut.{complete}
-use Rattle.rules.proofs.Run.{run-fill}
+use Rattle.rules.proofs.Run.{run_fill}
 use Rattle.rules.proofs.Counts.{agrees}
 use Rattle.rules.proofs.Pieces.{length-padded, packages-again, filled, any-pieces, whole_words}
 
@@ -59,7 +59,7 @@ module _ (m : Message) (v : Valid m) (t : List ℕ) where
     version = 1;
     words = length options / 4;
     kind = 0;
-    flags = m.flags + oneIfAny m.packages * 128;
+    flags = m.flags + one_if_any m.packages * 128;
     id = m.id;
     sequence = m.sequence;
     size = 24 + length options + length payload;
@@ -118,17 +118,17 @@ module _ (m : Message) (v : Valid m) (t : List ℕ) where
       let c : 24 + length m.options - 24 ≡ length m.options = omega arith in
       rw (c, body, append_assoc, append_assoc, take-append_seam)
 
-  pub any-le : oneIfAny m.packages ≤ 1
+  pub any-le : one_if_any m.packages ≤ 1
   any-le = go m.packages
     where
-      go : (l : List Package) → oneIfAny l ≤ 1
+      go : (l : List Package) → one_if_any l ≤ 1
       go [] = omega arith
       go (x ∷ l) = omega arith
 
   module _ (p : ℕ) where
-    checksOneToSix-again : checksOneToSix p (write m ++ t) header ≡ good tt
-    unfolding checksOneToSix
-    checksOneToSix-again =
+    checks_one_to_six-again : checks_one_to_six p (write m ++ t) header ≡ good tt
+    unfolding checks_one_to_six
+    checks_one_to_six-again =
         pass _ _ _ _ (le-ltb (length (write m ++ t)) 24 (omega (arith, length-all)))
         (pass _ _ _ _ refl
         (pass _ _ _ _ refl
@@ -137,36 +137,36 @@ module _ (m : Message) (v : Valid m) (t : List ℕ) where
           eq-eqb ((24 + length options + length payload) % 4) 0 (omega (arith, words4, whole_words v.packages)),
         ))
         (pass _ _ _ _ (le-ltb (length (write m ++ t)) (24 + length options + length payload) (omega (arith, length-all)))
-        (pass-last _ _ _ (le-ltb 999999999 m.nanos v.nanos))))))
+        (pass_last _ _ _ (le-ltb 999999999 m.nanos v.nanos))))))
 
-    run-again : optionRunLength p (write m ++ t) header ≡ good (length m.options)
-    unfolding optionRunLength
+    run-again : option_run_length p (write m ++ t) header ≡ good (length m.options)
+    unfolding option_run_length
     run-again =
-        after _ _ checksOneToSix-again
+        after _ _ checks_one_to_six-again
         (rw (words4, options-part (write m ++ t) options payload t body)
-        (run-fill [] 0 0 (p + 24) 0 m.options (pad (length m.options) - length m.options) (omega arith) (omega arith) v.run))
+        (run_fill [] 0 0 (p + 24) 0 m.options (pad (length m.options) - length m.options) (omega arith) (omega arith) v.run))
 
-    cut_again : cut (p + payloadStart header) (part (payloadStart header) header.size (write m ++ t)) ≡ good (map piece_of m.packages)
+    cut_again : cut (p + payload_start header) (part (payload_start header) header.size (write m ++ t)) ≡ good (map piece_of m.packages)
     cut_again = rw (words4, payload-part (write m ++ t) options payload t body) (complete (filled v.packages) (p + (24 + length options)))
 
-    checksEightAndNine-again : checksEightAndNine p (write m ++ t) header ≡ good tt
-    unfolding checksEightAndNine
-    checksEightAndNine-again =
-        pass _ _ _ _ (rw (eq-eqb ((m.flags + oneIfAny m.packages * 128) / 16 % 4) 0 (omega (arith, v.flags, any-le))))
-        (pass-last _ _ _ (rw (words4, payload-part (write m ++ t) options payload t body, any-pieces, eq-eqb ((m.flags + oneIfAny m.packages * 128) / 128 % 2) (oneIfAny m.packages) (seven m.flags (oneIfAny m.packages) any-le v.flags))))
+    checks_eight_and_nine-again : checks_eight_and_nine p (write m ++ t) header ≡ good tt
+    unfolding checks_eight_and_nine
+    checks_eight_and_nine-again =
+        pass _ _ _ _ (rw (eq-eqb ((m.flags + one_if_any m.packages * 128) / 16 % 4) 0 (omega (arith, v.flags, any-le))))
+        (pass_last _ _ _ (rw (words4, payload-part (write m ++ t) options payload t body, any-pieces, eq-eqb ((m.flags + one_if_any m.packages * 128) / 128 % 2) (one_if_any m.packages) (seven m.flags (one_if_any m.packages) any-le v.flags))))
 
-    checksOneToTen-again : checksOneToTen p (write m ++ t) header ≡ good (length m.options, map piece_of m.packages)
-    unfolding checksOneToTen checksOneToNine
-    checksOneToTen-again = step _ _ (step _ _ run-again (after _ _ checksEightAndNine-again refl)) (step _ _ cut_again refl)
+    checks_one_to_ten-again : checks_one_to_ten p (write m ++ t) header ≡ good (length m.options, map piece_of m.packages)
+    unfolding checks_one_to_ten checks_one_to_nine
+    checks_one_to_ten-again = step _ _ (step _ _ run-again (after _ _ checks_eight_and_nine-again refl)) (step _ _ cut_again refl)
 
-    everyCheck-again : everyCheck p (write m ++ t) header ≡ good (length m.options, map piece_of m.packages)
-    unfolding everyCheck
-    everyCheck-again = step _ _ checksOneToTen-again (pass _ _ _ _ (rw (run-part, length-map) (agrees (countSaid m.options) (length m.packages) v.count)) refl)
+    every_check-again : every_check p (write m ++ t) header ≡ good (length m.options, map piece_of m.packages)
+    unfolding every_check
+    every_check-again = step _ _ checks_one_to_ten-again (pass _ _ _ _ (rw (run-part, length-map) (agrees (count_said m.options) (length m.packages) v.count)) refl)
 
-    record-again : recordOf (write m ++ t) header (length m.options, map piece_of m.packages) ≡ m
-    unfolding recordOf
-    record-again = rw (kept m.flags (oneIfAny m.packages) v.flags, packages-again v.packages, run-part)
+    record_again : record_of (write m ++ t) header (length m.options, map piece_of m.packages) ≡ m
+    unfolding record_of
+    record_again = rw (kept m.flags (one_if_any m.packages) v.flags, packages-again v.packages, run-part)
 
     pub message-again : message p (write m ++ t) ≡ good (m, length (write m))
     unfolding message
-    message-again = rw head-again (step _ _ everyCheck-again (rw (record-again, length-write)))
+    message-again = rw head-again (step _ _ every_check-again (rw (record_again, length-write)))

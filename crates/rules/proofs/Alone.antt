@@ -7,10 +7,10 @@ use borrow.Author.Tests.{le-ltb, eq-eqb}
 use lib.ListN.{length, take, drop, length-append, length-drop, length-take, take-append-drop, get_or-append}
 use lib.Seq.{take-append-le, drop-append-le, length-take-le, take-append_seam}
 use Rattle.rules.specs.Outcome.{good}
-use Rattle.rules.specs.Bytes.{part, oneIfAny}
-use Rattle.rules.specs.Message.{Head, head, payloadStart, checksOneToSix, optionRunLength, checksEightAndNine, checksOneToNine, checksOneToTen, everyCheck, Message, recordOf, message}
-use Rattle.rules.specs.Clean.{cleanBytes, cleanForm}
-use Rattle.rules.proofs.Outcomes.{pass, pass-last, after, step, stepped, good-inj}
+use Rattle.rules.specs.Bytes.{part, one_if_any}
+use Rattle.rules.specs.Message.{Head, head, payload_start, checks_one_to_six, option_run_length, checks_eight_and_nine, checks_one_to_nine, checks_one_to_ten, every_check, Message, record_of, message}
+use Rattle.rules.specs.Clean.{clean_bytes, clean_form}
+use Rattle.rules.proofs.Outcomes.{pass, pass_last, after, step, stepped, good_inj}
 use Rattle.rules.proofs.Numbers.{word-append}
 use Rattle.rules.proofs.Passed.{Passed, passes}
 use Rattle.rules.proofs.Cut as Cut
@@ -35,45 +35,45 @@ head-append s t l =
 
 -- a message that passes, with bytes behind it
 module _ (p : ℕ) (s t : List ℕ) (r : ℕ × List (List ℕ)) (w : Passed p s (head s) r) where
-  options-part : part 24 (payloadStart (head s)) (s ++ t) ≡ part 24 (payloadStart (head s)) s
-  options-part = part-append 24 (payloadStart (head s)) s t w.header.long (omega (arith, w.header.least, w.header.most))
+  options-part : part 24 (payload_start (head s)) (s ++ t) ≡ part 24 (payload_start (head s)) s
+  options-part = part-append 24 (payload_start (head s)) s t w.header.long (omega (arith, w.header.least, w.header.most))
 
-  payload-part : part (payloadStart (head s)) (head s).size (s ++ t) ≡ part (payloadStart (head s)) (head s).size s
-  payload-part = part-append (payloadStart (head s)) (head s).size s t (omega (arith, w.header.least, w.header.most)) w.header.most
+  payload-part : part (payload_start (head s)) (head s).size (s ++ t) ≡ part (payload_start (head s)) (head s).size s
+  payload-part = part-append (payload_start (head s)) (head s).size s t (omega (arith, w.header.least, w.header.most)) w.header.most
 
-  ten-before : checksOneToTen p (s ++ t) (head s) ≡ good r
-  unfolding checksOneToTen checksOneToNine optionRunLength checksOneToSix checksEightAndNine
-  ten-before =
+  ten_before : checks_one_to_ten p (s ++ t) (head s) ≡ good r
+  unfolding checks_one_to_ten checks_one_to_nine option_run_length checks_one_to_six checks_eight_and_nine
+  ten_before =
       step _ _
       (step _ _
       (after _ _
       (pass _ _ _ _ (le-ltb (length (s ++ t)) 24 (omega (arith, length-append s t, w.header.long)))
       (pass _ _ _ _ (rw (eq-eqb (head s).version 1 w.header.version))
       (pass _ _ _ _ (rw (eq-eqb (head s).kind 0 w.header.kind))
-      (pass _ _ _ _ (rw (le-ltb (head s).size (payloadStart (head s)) w.header.least, eq-eqb ((head s).size % 4) 0 w.header.whole))
+      (pass _ _ _ _ (rw (le-ltb (head s).size (payload_start (head s)) w.header.least, eq-eqb ((head s).size % 4) 0 w.header.whole))
       (pass _ _ _ _ (le-ltb (length (s ++ t)) (head s).size (omega (arith, length-append s t, w.header.most)))
-      (pass-last _ _ _ (le-ltb 999999999 (head s).nanos w.header.nanos)))))))
+      (pass_last _ _ _ (le-ltb 999999999 (head s).nanos w.header.nanos)))))))
       (rw options-part w.options))
       (after _ _
       (pass _ _ _ _ (rw (eq-eqb ((head s).flags / 16 % 4) 0 w.fragment))
-      (pass-last _ _ _ (rw (payload-part, eq-eqb ((head s).flags / 128 % 2) (oneIfAny (part (payloadStart (head s)) (head s).size s)) w.standard))))
+      (pass_last _ _ _ (rw (payload-part, eq-eqb ((head s).flags / 128 % 2) (one_if_any (part (payload_start (head s)) (head s).size s)) w.standard))))
       refl))
       (step _ _ (rw payload-part w.packages) refl)
 
   inside : 24 + r.0 ≤ length s
   inside =
-      let e = (run_ends [] 0 (p + 24) 0 (part 24 (payloadStart (head s)) s) (omega arith) w.options).most in
-      omega (arith, e, length-take (payloadStart (head s) - 24) (drop 24 s), length-drop 24 s, w.header.least, w.header.most)
+      let e = (run_ends [] 0 (p + 24) 0 (part 24 (payload_start (head s)) s) (omega arith) w.options).most in
+      omega (arith, e, length-take (payload_start (head s) - 24) (drop 24 s), length-drop 24 s, w.header.least, w.header.most)
 
   run-before : part 24 (24 + r.0) (s ++ t) ≡ part 24 (24 + r.0) s
   run-before = part-append 24 (24 + r.0) s t w.header.long inside
 
-  pub passes-before : everyCheck p (s ++ t) (head s) ≡ good r
-  unfolding everyCheck
-  passes-before = step _ _ ten-before (pass _ _ _ _ (rw run-before w.count) refl)
+  pub passes-before : every_check p (s ++ t) (head s) ≡ good r
+  unfolding every_check
+  passes-before = step _ _ ten_before (pass _ _ _ _ (rw run-before w.count) refl)
 
-  pub cleaned-before : cleanBytes (s ++ t) r ≡ cleanBytes s r
-  unfolding cleanBytes
+  pub cleaned-before : clean_bytes (s ++ t) r ≡ clean_bytes s r
+  unfolding clean_bytes
   cleaned-before =
       rw (
         run-before,
@@ -84,8 +84,8 @@ module _ (p : ℕ) (s t : List ℕ) (r : ℕ × List (List ℕ)) (w : Passed p s
         get_or-append s t 0 3 (omega (arith, w.header.long)),
       )
 
-pub clean-alone : (s behind c : List ℕ) → cleanForm s ≡ good c → cleanForm (s ++ behind) ≡ good c
-unfolding cleanForm
+pub clean-alone : (s behind c : List ℕ) → clean_form s ≡ good c → clean_form (s ++ behind) ≡ good c
+unfolding clean_form
 clean-alone s behind c e =
     let (r, q, z) = stepped _ _ e in
     let w = passes 0 s (head s) r q in
@@ -103,10 +103,10 @@ pub record Own (s : List ℕ) (m : Message) (n : ℕ) : Type 0 where
 moved : (p q : ℕ) (s : List ℕ) (h : Head) (r : ℕ × List (List ℕ)) → Passed p s h r → Passed q s h r
 moved p q s h r w = record {
   header = w.header;
-  options = run_moved [] 0 (p + 24) (q + 24) 0 (part 24 (payloadStart h) s) w.options;
+  options = run_moved [] 0 (p + 24) (q + 24) 0 (part 24 (payload_start h) s) w.options;
   fragment = w.fragment;
   standard = w.standard;
-  packages = Cut.complete (Cut.sound 0 (p + payloadStart h) (part (payloadStart h) h.size s) w.packages) (q + payloadStart h);
+  packages = Cut.complete (Cut.sound 0 (p + payload_start h) (part (payload_start h) h.size s) w.packages) (q + payload_start h);
   count = w.count;
 }
 
@@ -133,8 +133,8 @@ module _ (s : List ℕ) (p : ℕ) (r : ℕ × List (List ℕ)) (w : Passed p s (
   -- the option run ends within the message
   run_inside : 24 + r.0 ≤ n
   run_inside =
-      let e = (run_ends [] 0 (p + 24) 0 (part 24 (payloadStart (head s)) s) (omega arith) w.options).most in
-      omega (arith, e, length-take (payloadStart (head s) - 24) (drop 24 s), w.header.least)
+      let e = (run_ends [] 0 (p + 24) 0 (part 24 (payload_start (head s)) s) (omega arith) w.options).most in
+      omega (arith, e, length-take (payload_start (head s) - 24) (drop 24 s), w.header.least)
 
   run_alone : part 24 (24 + r.0) u ≡ part 24 (24 + r.0) s
   run_alone = part-alone 24 (24 + r.0) (omega (arith, run_inside)) run_inside
@@ -150,33 +150,33 @@ module _ (s : List ℕ) (p : ℕ) (r : ℕ × List (List ℕ)) (w : Passed p s (
       most = omega (arith, long);
       nanos = w.header.nanos;
     };
-    options = rw (part-alone 24 (payloadStart (head s)) (omega (arith, w.header.least)) w.header.least) w.options;
+    options = rw (part-alone 24 (payload_start (head s)) (omega (arith, w.header.least)) w.header.least) w.options;
     fragment = w.fragment;
-    standard = rw (part-alone (payloadStart (head s)) n w.header.least (omega arith)) w.standard;
-    packages = rw (part-alone (payloadStart (head s)) n w.header.least (omega arith)) w.packages;
+    standard = rw (part-alone (payload_start (head s)) n w.header.least (omega arith)) w.standard;
+    packages = rw (part-alone (payload_start (head s)) n w.header.least (omega arith)) w.packages;
     count = rw run_alone w.count;
   }
 
   -- the record is told by the same bytes
-  same-record : (t : List ℕ) → recordOf (u ++ t) (head s) r ≡ recordOf s (head s) r
-  unfolding recordOf
-  same-record t =
+  same_record : (t : List ℕ) → record_of (u ++ t) (head s) r ≡ record_of s (head s) r
+  unfolding record_of
+  same_record t =
       rw (part-append 24 (24 + r.0) u t (omega (arith, long, w.header.least)) (omega (arith, long, run_inside)), run_alone)
 
-  pub again-good : (q : ℕ) (t : List ℕ) → message q (u ++ t) ≡ good (recordOf s (head s) r, n)
+  pub again-good : (q : ℕ) (t : List ℕ) → message q (u ++ t) ≡ good (record_of s (head s) r, n)
   unfolding message
   again-good q t =
       let v : Passed q u (head u) r = rw same_head (moved p q u (head s) r alone) in
       let h : head (u ++ t) ≡ head s = head-append u t v.header.long ∙ same_head in
-      let c : everyCheck q (u ++ t) (head s) ≡ good r = rw same_head at (passes-before q u t r v) in
-      rw h (step _ _ c (ap (λ (m : Message). good (m, n)) (same-record t)))
+      let c : every_check q (u ++ t) (head s) ≡ good r = rw same_head at (passes-before q u t r v) in
+      rw h (step _ _ c (ap (λ (m : Message). good (m, n)) (same_record t)))
 
 pub own : (p : ℕ) (s : List ℕ) (m : Message) (n : ℕ) → message p s ≡ good (m, n) → Own s m n
 unfolding message
 own p s m n e =
     let (r, q, z) = stepped _ _ e in
     let w = passes p s (head s) r q in
-    subst (λ (k : Message × ℕ). Own s k.0 k.1) (good-inj z) (record { least = omega (arith, w.header.least); most = w.header.most; again = again-good s p r w })
+    subst (λ (k : Message × ℕ). Own s k.0 k.1) (good_inj z) (record { least = omega (arith, w.header.least); most = w.header.most; again = again-good s p r w })
 
 -- so it is read the same with anything else behind it and at any other place
 pub message-moved : (p q : ℕ) (c t u : List ℕ) (m : Message) → message p (c ++ t) ≡ good (m, length c) → message q (c ++ u) ≡ good (m, length c)

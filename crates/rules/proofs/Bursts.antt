@@ -11,14 +11,14 @@ use lib.ListN.{length, take, drop, take-append-drop}
 use lib.Seq.{take-add}
 use Rattle.rules.specs.Outcome.{good, bad}
 use Rattle.rules.specs.Bytes.{Bytes, word, put32}
-use Rattle.rules.specs.Burst.{randomized, randomizedAnswer, randomizer, marker, marked, codeblocks, blocksFit, opening}
+use Rattle.rules.specs.Burst.{randomized, randomized_answer, randomizer, marker, marked, codeblocks, blocks_fit, opening}
 use Rattle.rules.specs.Claims.{BurstRefused, large, unmarked, blocks}
-use Rattle.rules.proofs.Outcomes.{pass, halt, passed, good-inj, good≢bad, both, never_true, refused-at}
+use Rattle.rules.proofs.Outcomes.{pass, halt, passed, good_inj, good≢bad, both, never_true, refused-at}
 use Rattle.rules.proofs.Numbers.{put32-at}
 
 pub randomizer-is : (buffer : List ℕ) → length buffer ≤ 65536 → randomizer buffer ≡ (record { number = 0; place = 0 }, randomized 0 buffer)
-unfolding randomizer randomizedAnswer
-randomizer-is buffer l = ap (randomizedAnswer buffer) (pass _ _ _ _ (le-ltb 65536 (length buffer) l) refl)
+unfolding randomizer randomized_answer
+randomizer-is buffer l = ap (randomized_answer buffer) (pass _ _ _ _ (le-ltb 65536 (length buffer) l) refl)
 
 -- the first eight bytes by their two numbers
 eight : (s : List ℕ) → Bytes s → 8 ≤ length s → put32 (word s 0) (put32 (word s 4) []) ≡ take 8 s
@@ -54,13 +54,13 @@ record Whole (n : ℕ) : Type 0 where
   most : codeblocks n ≤ 80
   exact : (n - 8) % 768 ≡ 0
 
-whole : (n : ℕ) → blocksFit n ≡ true → Whole n
+whole : (n : ℕ) → blocks_fit n ≡ true → Whole n
 whole n e =
     let (a, b) = both (leb 1 (codeblocks n) && leb (codeblocks n) 80) (eqb ((n - 8) % 768) 0) e in
     let (c, d) = both (leb 1 (codeblocks n)) (leb (codeblocks n) 80) a in
     record { least = leb-true _ _ c; most = leb-true _ _ d; exact = eqb-true _ _ b }
 
-fits : (n k : ℕ) → 1 ≤ k → k ≤ 80 → n ≡ 8 + k * 768 → blocksFit n ≡ true
+fits : (n k : ℕ) → 1 ≤ k → k ≤ 80 → n ≡ 8 + k * 768 → blocks_fit n ≡ true
 fits n k least most size =
     let c : codeblocks n ≡ k = rw size (omega arith) in
     let r : (n - 8) % 768 ≡ 0 = rw size (omega arith) in
@@ -77,13 +77,13 @@ module _ (s : List ℕ) (b : Bytes s) (blocks : ℕ) (after : List ℕ) where
       let (m, e) = passed _ _ _ _ e in
       let (f, e) = passed _ _ _ _ e in
       let v = whole (length s) (not-false _ f) in
-      let n : codeblocks (length s) ≡ blocks = ap (λ (x : ℕ × List ℕ). x.0) (good-inj e) in
+      let n : codeblocks (length s) ≡ blocks = ap (λ (x : ℕ × List ℕ). x.0) (good_inj e) in
       let t : take 8 s ≡ marker = marked-begins s b (not-false _ m) in (
         t,
         rw n at v.least,
         rw n at v.most,
         rw (← n) (omega (arith, v.least, v.exact)),
-        sym (ap (λ (x : ℕ × List ℕ). x.1) (good-inj e)) ∙ ap (λ (h : List ℕ). h ++ randomized 0 (drop 8 s)) t,
+        sym (ap (λ (x : ℕ × List ℕ). x.1) (good_inj e)) ∙ ap (λ (h : List ℕ). h ++ randomized 0 (drop 8 s)) t,
       )
 
   opens : Is → opening s ≡ good (blocks, after)
@@ -95,8 +95,8 @@ module _ (s : List ℕ) (b : Bytes s) (blocks : ℕ) (after : List ℕ) where
       (pass _ _ _ _ (rw (fits (length s) blocks least most size))
       (rw (n, t, all))))
 
-  pub burst-exactly : (opening s ≡ good (blocks, after)) ↔ Is
-  burst-exactly = (opened, opens)
+  pub burst_exactly : (opening s ≡ good (blocks, after)) ↔ Is
+  burst_exactly = (opened, opens)
 
 -- ---- why it is not opened
 
@@ -117,9 +117,9 @@ module _ (s : List ℕ) (b : Bytes s) where
   unopens (large l) = halt _ _ _ _ (lt-ltb 65536 (length s) l)
   unopens (unmarked l h) = pass _ _ _ _ (le-ltb 65536 (length s) l) (halt _ _ _ _ (rw (never_true (marked s) (λ m. h (marked-begins s b m)))))
   unopens (blocks l m h) =
-      let f : blocksFit (length s) ≡ false =
-      never_true (blocksFit (length s)) (λ f. let w = whole (length s) f in h (codeblocks (length s)) w.least w.most (omega (arith, w.least, w.exact))) in
+      let f : blocks_fit (length s) ≡ false =
+      never_true (blocks_fit (length s)) (λ f. let w = whole (length s) f in h (codeblocks (length s)) w.least w.most (omega (arith, w.least, w.exact))) in
       pass _ _ _ _ (le-ltb 65536 (length s) l) (pass _ _ _ _ (rw (begins-marked s m)) (halt _ _ _ _ (rw f)))
 
-  pub burst-refused : (n p : ℕ) → (opening s ≡ bad n p) ↔ BurstRefused s n p
-  burst-refused n p = (unopened, unopens)
+  pub burst_refused : (n p : ℕ) → (opening s ≡ bad n p) ↔ BurstRefused s n p
+  burst_refused n p = (unopened, unopens)

@@ -7,41 +7,41 @@ use borrow.Author.Tests.{le-ltb}
 use lib.ListN.{length, length-append}
 use Rattle.rules.specs.Outcome.{Outcome, good, ◌>>=◌, ◌>>◌, ROOM}
 use Rattle.rules.specs.Bytes.{Bytes, part, join}
-use Rattle.rules.specs.Message.{headerBytes, notLarge, Head, head, payload, optionRunLength, Message, message, recording, checksOneToNine, checksOneToTen, everyCheck}
-use Rattle.rules.specs.Reading.{header, optionRun, packagesOf, checkedRecording}
+use Rattle.rules.specs.Message.{header_bytes, not_large, Head, head, payload, option_run_length, Message, message, recording, checks_one_to_nine, checks_one_to_ten, every_check}
+use Rattle.rules.specs.Reading.{header, option_run, packages_of, checked_recording}
 use Rattle.rules.specs.Buffer.{fitted, stored}
 use Rattle.rules.specs.Writer.{Draft, written, writer}
-use Rattle.rules.specs.Clean.{cleanForm, cleaner}
+use Rattle.rules.specs.Clean.{clean_form, cleaner}
 use Rattle.rules.specs.Sheet.{Row}
-use Rattle.rules.specs.Copy.{Entry, packagesIn, Answer, releasedOf, reported, measurement, room_for, answered, copy}
+use Rattle.rules.specs.Copy.{Entry, packages_in, Answer, released_of, reported, measurement, room_for, answered, copy}
 use Rattle.rules.specs.Burst.{randomized, opening, randomizer, opener}
 use Rattle.rules.specs.Claims.{BuffersKept, PremisesMet, RoundTrips, Writes, BuffersWritten, CleanExactly, ReadingExactly, WholeRun, OptionsExactly, CountExactly, PackageExactly, WalkExactly, RowExactly, GrantedExactly, WindowsExactly, AcquiredOnly, RandomizerExactly, BurstExactly, RefusalsExactly, SameCopies, DifferentCopies, CopyExactly, MeasuredFirst, SequenceCounted, ReleasedExactly, CopyPlain, TwoSheets, RowAdded, OneOutcome, Claims}
-use Rattle.rules.proofs.Outcomes.{pass, passed, step, stepped, came-after, good-inj}
-use Rattle.rules.proofs.Reasons.{recording-refused, check-refused, header_refused, cleaning-refused, writing-refused, sheet-refused, rows-refused, release-refused, measure-refused, copy-refused}
-use Rattle.rules.proofs.Kept.{careful-stored, careful-answered, kept-randomized, kept-opened, writes, roomless}
+use Rattle.rules.proofs.Outcomes.{pass, passed, step, stepped, came_after, good_inj}
+use Rattle.rules.proofs.Reasons.{recording-refused, check_refused, header_refused, cleaning_refused, writing-refused, sheet-refused, rows-refused, release_refused, measure_refused, copy-refused}
+use Rattle.rules.proofs.Kept.{careful_stored, careful_answered, kept-randomized, kept-opened, writes, roomless}
 use Rattle.rules.proofs.Cut as Cut
 use Rattle.rules.proofs.Passed.{sound, passes}
 use Rattle.rules.proofs.Alone as Alone
 use Rattle.rules.proofs.RoundTrip as RoundTrip
-use Rattle.rules.proofs.Writer.{accepts, accepted-valid, parts, parts-written, draft-refused}
+use Rattle.rules.proofs.Writer.{accepts, accepted_valid, parts, parts-written, draft-refused}
 use Rattle.rules.proofs.Refused.{exactly, count-read, count-right}
-use Rattle.rules.proofs.Wholes.{whole-run-by, option-stopped, fault-at, said-by}
+use Rattle.rules.proofs.Wholes.{whole-run-by, option_stopped, fault-at, said-by}
 use Rattle.rules.proofs.Valids.{run-again}
-use Rattle.rules.proofs.Walks.{walks-cut, stays, walk-large, ended, walk_refused}
+use Rattle.rules.proofs.Walks.{walks_cut, stays, walk_large, ended, walk_refused}
 use Rattle.rules.proofs.Granted as Granted
 use Rattle.rules.proofs.Acquired as Acquired
 use Rattle.rules.proofs.Sequence as Sequence
-use Rattle.rules.proofs.Bursts.{randomizer-is, burst-exactly, burst-refused}
+use Rattle.rules.proofs.Bursts.{randomizer-is, burst_exactly, burst_refused}
 use Rattle.rules.specs.Table.{Table}
 use Rattle.rules.proofs.Table.{table}
 use Rattle.rules.specs.Edges.{Edges}
 use Rattle.rules.proofs.Edges.{edges}
-use Rattle.rules.proofs.Growing.{copyMessages-snoc, released-append, released-entry, released-none}
-use Rattle.rules.proofs.Interference.{copy_is, delivered-is, same_copy, same-measurement, same-list, copy-short, copy-passes, copy-plain}
-use Rattle.rules.proofs.Nevers.{never-released}
+use Rattle.rules.proofs.Growing.{copy_messages_snoc, released-append, released-entry, released-none}
+use Rattle.rules.proofs.Interference.{copy_is, delivered-is, same_copy, same_measurement, same_list, copy-short, copy-passes, copy-plain}
+use Rattle.rules.proofs.Nevers.{never_released}
 use Rattle.rules.proofs.Turns as Turns
 use Rattle.rules.proofs.Measured.{measured-roomless, measured-enough, measured-short}
-use Rattle.rules.proofs.Spots.{of-record, spot-read, spot-refused}
+use Rattle.rules.proofs.Spots.{of_record, spot-read, spot-refused}
 use native.Mathlib.Nat.{zero-add, add-zero}
 
 -- ---- demand 1
@@ -49,56 +49,56 @@ use native.Mathlib.Nat.{zero-add, add-zero}
 pub buffers-kept : BuffersKept
 unfolding writer cleaner copy randomizer opener
 buffers-kept = record {
-  writer = λ d buffer. careful-stored buffer (written d >>= fitted buffer);
-  cleaner = λ s buffer. careful-stored buffer ((notLarge s >> cleanForm s) >>= fitted buffer);
-  copy = λ recording sheet buffer. careful-answered buffer (releasedOf recording sheet >>= room_for buffer);
-  randomizer = λ buffer. kept-randomized buffer (notLarge buffer >> good (randomized 0 buffer));
+  writer = λ d buffer. careful_stored buffer (written d >>= fitted buffer);
+  cleaner = λ s buffer. careful_stored buffer ((not_large s >> clean_form s) >>= fitted buffer);
+  copy = λ recording sheet buffer. careful_answered buffer (released_of recording sheet >>= room_for buffer);
+  randomizer = λ buffer. kept-randomized buffer (not_large buffer >> good (randomized 0 buffer));
   opener = λ buffer. kept-opened buffer (opening buffer);
 }
 
 -- ---- demand 2
 
-pub premises-met : PremisesMet
-premises-met = record {
+pub premises_met : PremisesMet
+premises_met = record {
   bytes = λ s b. record { below = b };
   draft = λ d i q t o p. record { id = i; sequence = q; seconds = t; options = o; packages = p };
 }
 
 -- the option run of a message that passes
-run_is : (s : List ℕ) (n : ℕ) → header s ≡ good (head s, n) → optionRun s ≡ part headerBytes (headerBytes + n) s
-unfolding optionRun
-run_is s n e = rw (e, optionRun)
+run_is : (s : List ℕ) (n : ℕ) → header s ≡ good (head s, n) → option_run s ≡ part header_bytes (header_bytes + n) s
+unfolding option_run
+run_is s n e = rw (e, option_run)
 
 -- the parts of a message as they stand in its bytes
 abbrev parts_of : List ℕ → Draft
-parts_of s = record { flags = (head s).flags; id = (head s).id; sequence = (head s).sequence; seconds = (head s).seconds; nanos = (head s).nanos; options = optionRun s; packages = payload s (head s) }
+parts_of s = record { flags = (head s).flags; id = (head s).id; sequence = (head s).sequence; seconds = (head s).seconds; nanos = (head s).nanos; options = option_run s; packages = payload s (head s) }
 
-parts_are : (s : List ℕ) (r : ℕ × List (List ℕ)) → length s ≤ 65536 → everyCheck 0 s (head s) ≡ good r → parts_of s ≡ parts s r
-unfolding everyCheck checksOneToTen checksOneToNine header
+parts_are : (s : List ℕ) (r : ℕ × List (List ℕ)) → length s ≤ 65536 → every_check 0 s (head s) ≡ good r → parts_of s ≡ parts s r
+unfolding every_check checks_one_to_ten checks_one_to_nine header
 parts_are s r l q =
     let (x, q, e) = stepped _ _ q in
     let (t, e) = passed _ _ _ _ e in
     let (n, p, q) = stepped _ _ q in
     let (m, o, p) = stepped _ _ p in
-    let (f, p) = came-after _ _ p in
+    let (f, p) = came_after _ _ p in
     let (cs, g, q) = stepped _ _ q in
     let h : header s ≡ good (head s, m) = pass _ _ _ _ (le-ltb 65536 (length s) l) (step _ _ o refl) in
-    let z : m ≡ r.0 = good-inj p ∙ ap (λ (x : ℕ × List (List ℕ)). x.0) (good-inj q ∙ good-inj e) in
+    let z : m ≡ r.0 = good_inj p ∙ ap (λ (x : ℕ × List (List ℕ)). x.0) (good_inj q ∙ good_inj e) in
     rw (run_is s m h, z)
 
-parts-give-clean : (s : List ℕ) → Bytes s → length s ≤ 65536 → (m : Message) (n : ℕ) → message 0 s ≡ good (m, n) → written (parts_of s) ≡ cleanForm s
-unfolding message cleanForm
-parts-give-clean s b l m n e =
+parts_give_clean : (s : List ℕ) → Bytes s → length s ≤ 65536 → (m : Message) (n : ℕ) → message 0 s ≡ good (m, n) → written (parts_of s) ≡ clean_form s
+unfolding message clean_form
+parts_give_clean s b l m n e =
     let (r, q, z) = stepped _ _ e in
     ap written (parts_are s r l q) ∙ parts-written 0 s r b l (passes 0 s (head s) r q) ∙ sym (step _ _ q refl)
 
-pub round-trips : RoundTrips
-round-trips = record {
-  accepted-valid = λ d f m e. accepted-valid d f (accepts d e);
-  read-valid = RoundTrip.read-valid;
+pub round_trips : RoundTrips
+round_trips = record {
+  accepted_valid = λ d f m e. accepted_valid d f (accepts d e);
+  read_valid = RoundTrip.read_valid;
   written_read = RoundTrip.written_read;
   read-written = RoundTrip.read-written;
-  parts-written = parts-give-clean;
+  parts-written = parts_give_clean;
 }
 
 -- an outcome, stored: with room and without
@@ -109,55 +109,55 @@ pub buffers-written : BuffersWritten
 unfolding writer cleaner
 buffers-written = record {
   writer = λ d c e. stores c (written d) e;
-  cleaner = λ s c h e. stores c (notLarge s >> cleanForm s) (pass _ _ _ _ (le-ltb 65536 (length s) h) e);
+  cleaner = λ s c h e. stores c (not_large s >> clean_form s) (pass _ _ _ _ (le-ltb 65536 (length s) h) e);
 }
 
 pub clean-exactly : CleanExactly
 clean-exactly = record { alone = Alone.clean-alone; twice = RoundTrip.clean-twice; equal = RoundTrip.clean-exactly }
 
 -- the packages of all messages, counted one by one and joined
-messages-joined : (ms : List Message) → packagesOf ms ≡ length (join (map (λ (m : Message). m.packages) ms))
-unfolding packagesOf
+messages-joined : (ms : List Message) → packages_of ms ≡ length (join (map (λ (m : Message). m.packages) ms))
+unfolding packages_of
 messages-joined [] = refl
 messages-joined (m ∷ ms) = omega (arith, messages-joined ms, length-append m.packages (join (map (λ (m : Message). m.packages) ms)))
 
-counts-checked : (s : List ℕ) (ms : List Message) → recording s ≡ good ms → checkedRecording s ≡ good (length ms, length (join (map (λ (m : Message). m.packages) ms)))
-unfolding checkedRecording
+counts-checked : (s : List ℕ) (ms : List Message) → recording s ≡ good ms → checked_recording s ≡ good (length ms, length (join (map (λ (m : Message). m.packages) ms)))
+unfolding checked_recording
 counts-checked s ms e = step _ _ e (rw (← messages-joined ms))
 
 pub reading-exactly : ReadingExactly
-reading-exactly = record { told = of-record; read = spot-read; refused = spot-refused; counted = counts-checked }
+reading-exactly = record { told = of_record; read = spot-read; refused = spot-refused; counted = counts-checked }
 
-pub package-exactly : PackageExactly
-package-exactly = record {
+pub package_exactly : PackageExactly
+package_exactly = record {
   refused = exactly;
   filled = λ p s pieces. (λ e. Cut.sound 0 p s e, λ f. Cut.complete f p);
   place = λ p s n q e. let r = rw add-zero at (Cut.refused 0 p s e) in (r.d, r.place, r.number, r.unfit, (r.pieces, r.fills));
 }
 
 -- the option run of a header that passes is a run by itself
-run-by-itself : (s : List ℕ) (h : Head) (n : ℕ) → header s ≡ good (h, n) → WholeRun (optionRun s)
-unfolding header optionRunLength
+run-by-itself : (s : List ℕ) (h : Head) (n : ℕ) → header s ≡ good (h, n) → WholeRun (option_run s)
+unfolding header option_run_length
 run-by-itself s h n e =
     let (l, f) = passed _ _ _ _ e in
     let (k, o, f) = stepped _ _ f in
-    let (a, o) = came-after _ _ o in
-    let r : optionRun s ≡ part headerBytes (headerBytes + k) s = run_is s k (e ∙ sym f) in
+    let (a, o) = came_after _ _ o in
+    let r : option_run s ≡ part header_bytes (header_bytes + k) s = run_is s k (e ∙ sym f) in
     rw r ((whole-run-by _).0 (run-again 0 s k (sound 0 s (head s) a) o))
 
 pub options-exactly : OptionsExactly
 options-exactly = record {
   bare = whole-run-by;
   read = run-by-itself;
-  place = λ p o n q e. let w = option-stopped p o e in (w.before, w.place, w.number, (w.options, w.fills, fault-at p o w));
+  place = λ p o n q e. let w = option_stopped p o e in (w.before, w.place, w.number, (w.options, w.fills, fault-at p o w));
   said = λ run w n. said-by w.1 w.3 n;
 }
 
 pub count-exactly : CountExactly
 count-exactly = record { right = count-right; read = count-read }
 
-pub walk-exactly : WalkExactly
-walk-exactly = record { shows = walks-cut; stays = stays; large = walk-large; ended = λ s i l. ended s l i; refused = λ s i n p l. walk_refused s l i n p }
+pub walk_exactly : WalkExactly
+walk_exactly = record { shows = walks_cut; stays = stays; large = walk_large; ended = λ s i l. ended s l i; refused = λ s i n p l. walk_refused s l i n p }
 
 pub row-exactly : RowExactly
 row-exactly = Granted.row-exactly
@@ -165,11 +165,11 @@ row-exactly = Granted.row-exactly
 pub granted-by-ranges : GrantedExactly
 granted-by-ranges rows m k = Granted.granted-exactly m k rows
 
-pub windows-exactly : WindowsExactly
-windows-exactly = record {
-  filled = Granted.no-empty-window;
-  once = λ rows rows' seam ends starts m k. Granted.seam-once m k rows rows' seam ends starts;
-  whole = λ r a b c l h m k. Granted.seam-whole m k r a b c l h;
+pub windows_exactly : WindowsExactly
+windows_exactly = record {
+  filled = Granted.no_empty_window;
+  once = λ rows rows' seam ends starts m k. Granted.seam_once m k rows rows' seam ends starts;
+  whole = λ r a b c l h m k. Granted.seam_whole m k r a b c l h;
 }
 
 pub acquired-only : (ns : List ℕ) (ms : List Message) → AcquiredOnly ns ms
@@ -190,47 +190,47 @@ randomizer-exactly = record {
   byte = λ buffer k l h. rw (randomizer-is buffer l) (rw zero-add at (Sequence.randomized-at 0 buffer k h));
 }
 
-pub burst-is : BurstExactly
-burst-is = burst-exactly
+pub burst_is : BurstExactly
+burst_is = burst_exactly
 
-pub refusals-exactly : RefusalsExactly
-refusals-exactly = record {
+pub refusals_exactly : RefusalsExactly
+refusals_exactly = record {
   header = header_refused;
   recording = recording-refused;
-  checked = check-refused;
+  checked = check_refused;
   sheet = sheet-refused;
   rows = rows-refused;
-  opening = burst-refused;
+  opening = burst_refused;
   drafts = draft-refused;
-  released = release-refused;
-  measured = measure-refused;
+  released = release_refused;
+  measured = measure_refused;
   copied = copy-refused;
   writer = writing-refused;
-  cleaner = cleaning-refused;
+  cleaner = cleaning_refused;
 }
 
-pub table-holds : Table
-table-holds = table
+pub table_holds : Table
+table_holds = table
 
-pub edges-hold : Edges
-edges-hold = edges
+pub edges_hold : Edges
+edges_hold = edges
 
 -- ---- demand 3
 
-pub same-copies : (recording recording' sheet sheet' : List ℕ) (same : releasedOf recording sheet ≡ releasedOf recording' sheet') → SameCopies recording recording' sheet sheet' same
-same-copies recording recording' sheet sheet' same = record { written = same_copy recording recording' sheet sheet' same; measured = same-measurement recording recording' sheet sheet' same }
+pub same_copies : (recording recording' sheet sheet' : List ℕ) (same : released_of recording sheet ≡ released_of recording' sheet') → SameCopies recording recording' sheet sheet' same
+same_copies recording recording' sheet sheet' same = record { written = same_copy recording recording' sheet sheet' same; measured = same_measurement recording recording' sheet sheet' same }
 
-pub different-copies : DifferentCopies
-different-copies recording recording' sheet sheet' buffer buffer' b b' es es' r r' l l' differ e =
-    differ (same-list recording recording' sheet sheet' buffer buffer' b b' es es' r r' l l' e)
+pub different_copies : DifferentCopies
+different_copies recording recording' sheet sheet' buffer buffer' b b' es es' r r' l l' differ e =
+    differ (same_list recording recording' sheet sheet' buffer buffer' b b' es es' r r' l l' e)
 
 -- the packages of all entries, counted one by one and joined
-entries-joined : (es : List Entry) → packagesIn es ≡ length (join (map (λ (e : Entry). e.packages) es))
-unfolding packagesIn
+entries-joined : (es : List Entry) → packages_in es ≡ length (join (map (λ (e : Entry). e.packages) es))
+unfolding packages_in
 entries-joined [] = refl
 entries-joined (e ∷ es) = omega (arith, entries-joined es, length-append e.packages (join (map (λ (e : Entry). e.packages) es)))
 
-pub copy-exactly : (recordingBytes sheetBytes : List ℕ) (es : List Entry) (list : releasedOf recordingBytes sheetBytes ≡ good es) → CopyExactly recordingBytes sheetBytes es list
+pub copy-exactly : (recordingBytes sheetBytes : List ℕ) (es : List Entry) (list : released_of recordingBytes sheetBytes ≡ good es) → CopyExactly recordingBytes sheetBytes es list
 unfolding measurement reported
 copy-exactly recordingBytes sheetBytes es list = record {
   measured = rw (← entries-joined es) (ap reported list);
@@ -245,11 +245,11 @@ copy-exactly recordingBytes sheetBytes es list = record {
 pub measured-first : (recording sheet : List ℕ) → MeasuredFirst recording sheet
 unfolding measurement copy answered
 measured-first recording sheet =
-    let o = releasedOf recording sheet in
-    record { roomless = measured-roomless o (never-released ROOM (λ n l o. o) recording sheet); enough = measured-enough o; short = measured-short o }
+    let o = released_of recording sheet in
+    record { roomless = measured-roomless o (never_released ROOM (λ n l o. o) recording sheet); enough = measured-enough o; short = measured-short o }
 
 pub sequence-counted : SequenceCounted
-sequence-counted = copyMessages-snoc
+sequence-counted = copy_messages_snoc
 
 pub released-exactly : (rows : List Row) → ReleasedExactly rows
 released-exactly rows = record {
@@ -265,10 +265,10 @@ copy-is-plain = copy-plain
 -- ---- two sheets in turn
 
 pub two-sheets : TwoSheets
-two-sheets r s t c d b h g rows rows' ms v w p = Turns.in-turn r b ms p s t c d h g rows rows' v w
+two-sheets r s t c d b h g rows rows' ms v w p = Turns.in_turn r b ms p s t c d h g rows rows' v w
 
-pub row-added : RowAdded
-row-added = Turns.row-added
+pub row_added : RowAdded
+row_added = Turns.row_added
 
 -- ---- what a promise allows
 
@@ -277,15 +277,15 @@ one-outcome A B told apart d a b p q = apart a b (p ∙ sym q)
 
 -- ---- all of it
 
-pub all-claims : Claims
-all-claims = record {
+pub all_claims : Claims
+all_claims = record {
   buffers = (buffers-kept, buffers-written);
-  reading = (reading-exactly, refusals-exactly, options-exactly, count-exactly, package-exactly, walk-exactly);
-  writing = (premises-met, round-trips, clean-exactly);
-  granting = (row-exactly, granted-by-ranges, windows-exactly, acquired-only, released-exactly);
-  copying = (copy-exactly, measured-first, sequence-counted, copy-is-plain, two-sheets, row-added);
-  bursts = (randomizer-exactly, burst-is);
-  silence = (same-copies, different-copies);
+  reading = (reading-exactly, refusals_exactly, options-exactly, count-exactly, package_exactly, walk_exactly);
+  writing = (premises_met, round_trips, clean-exactly);
+  granting = (row-exactly, granted-by-ranges, windows_exactly, acquired-only, released-exactly);
+  copying = (copy-exactly, measured-first, sequence-counted, copy-is-plain, two-sheets, row_added);
+  bursts = (randomizer-exactly, burst_is);
+  silence = (same_copies, different_copies);
   outcomes = one-outcome;
-  numbers = (table-holds, edges-hold);
+  numbers = (table_holds, edges_hold);
 }

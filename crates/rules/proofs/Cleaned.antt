@@ -6,12 +6,12 @@ use native.Mathlib.Nat.{div-div-eq-div-mul}
 use native.Mathlib.Omega.{arith}
 use lib.ListN.{length, take, drop, length-drop}
 use lib.Seq.{take-add, drop-cons, drop-drop, length-take-le}
-use Rattle.rules.specs.Bytes.{Bytes, at, half, word, put32, pad, part, oneIfAny}
+use Rattle.rules.specs.Bytes.{Bytes, at, half, word, put32, pad, part, one_if_any}
 use Rattle.rules.specs.Items.{Fills, none, more}
-use Rattle.rules.specs.Packages.{packageOf, piece_of, Piece}
-use Rattle.rules.specs.Message.{head, payloadStart, recordOf}
+use Rattle.rules.specs.Packages.{package_of, piece_of, Piece}
+use Rattle.rules.specs.Message.{head, payload_start, record_of}
 use Rattle.rules.specs.Writer.{write}
-use Rattle.rules.specs.Clean.{cleanPiece, cleanBytes}
+use Rattle.rules.specs.Clean.{clean_piece, clean_bytes}
 use Rattle.rules.proofs.Numbers.{put32-at, put16-at, bytes_drop, bytes_take, bytes_left, bytes-right}
 use Rattle.rules.proofs.Cut as Cut
 use Rattle.rules.proofs.Passed.{Passed}
@@ -32,8 +32,8 @@ module _ (c : List ℕ) (h : Piece c) (b : Bytes c) where
       let e : half c 4 - 7 ≡ suc (4 + (half c 4 - 12)) = omega (arith, h.least) in
       rw (e, drop-cons c 7 0 (omega (arith, long)), take-add 4 (half c 4 - 12) (drop 8 c), drop-drop 4 8 c)
 
-  pub piece-clean : piece_of (packageOf c) ≡ cleanPiece c
-  unfolding piece_of packageOf cleanPiece
+  pub piece-clean : piece_of (package_of c) ≡ clean_piece c
+  unfolding piece_of package_of clean_piece
   piece-clean =
       let z : pad (length (part 12 (half c 4) c)) - length (part 12 (half c 4) c) ≡ length c - half c 4 = omega (arith, h.least, h.whole, content-length) in
       rw (
@@ -47,16 +47,16 @@ module _ (c : List ℕ) (h : Piece c) (b : Bytes c) where
       )
       (simp append_assoc)
 
-pub pieces-clean : {cs : List (List ℕ)} {s : List ℕ} → Fills Piece cs s → Bytes s → map piece_of (map packageOf cs) ≡ map cleanPiece cs
+pub pieces-clean : {cs : List (List ℕ)} {s : List ℕ} → Fills Piece cs s → Bytes s → map piece_of (map package_of cs) ≡ map clean_piece cs
 pieces-clean none b = refl
 pieces-clean (more {c = c} {s = s} h r) b = rw (piece-clean c h (bytes_left c s b), pieces-clean r (bytes-right c s b))
 
 -- there is a package exactly where the payload is not empty
-pub any-filled : {cs : List (List ℕ)} {s : List ℕ} → Fills Piece cs s → oneIfAny (map packageOf cs) ≡ oneIfAny s
+pub any-filled : {cs : List (List ℕ)} {s : List ℕ} → Fills Piece cs s → one_if_any (map package_of cs) ≡ one_if_any s
 any-filled none = refl
 any-filled (more {c = c} {s = s} h r) = go c (omega (arith, h.least, h.whole))
   where
-    go : (l : List ℕ) → 1 ≤ length l → 1 ≡ oneIfAny (l ++ s)
+    go : (l : List ℕ) → 1 ≤ length l → 1 ≡ one_if_any (l ++ s)
     go [] q = absurd (omega arith)
     go (x ∷ l) q = refl
 
@@ -72,20 +72,20 @@ flags-back f a l g h =
     omega arith
 
 module _ (p : ℕ) (s : List ℕ) (r : ℕ × List (List ℕ)) (b : Bytes s) (w : Passed p s (head s) r) where
-  pub fills : Fills Piece r.1 (part (payloadStart (head s)) (head s).size s)
-  fills = Cut.sound 0 (p + payloadStart (head s)) (part (payloadStart (head s)) (head s).size s) w.packages
+  pub fills : Fills Piece r.1 (part (payload_start (head s)) (head s).size s)
+  fills = Cut.sound 0 (p + payload_start (head s)) (part (payload_start (head s)) (head s).size s) w.packages
 
-  pub payload-bytes : Bytes (part (payloadStart (head s)) (head s).size s)
-  payload-bytes = bytes_take ((head s).size - payloadStart (head s)) (drop (payloadStart (head s)) s) (bytes_drop (payloadStart (head s)) s b)
+  pub payload-bytes : Bytes (part (payload_start (head s)) (head s).size s)
+  payload-bytes = bytes_take ((head s).size - payload_start (head s)) (drop (payload_start (head s)) s) (bytes_drop (payload_start (head s)) s b)
 
   two : (k : ℕ) (t : List ℕ) → k + 8 ≤ length s → put32 (word s k) (put32 (word s (k + 4)) t) ≡ take 8 (drop k s) ++ t
   two k t l = rw (put32-at k s _ b (omega arith), put32-at (k + 4) s _ b (omega arith), take-add 4 4 (drop k s), drop-drop 4 k s) (simp append_assoc)
 
-  pub write_read : write (recordOf s (head s) r) ≡ cleanBytes s r
-  unfolding write recordOf cleanBytes head
+  pub write_read : write (record_of s (head s) r) ≡ clean_bytes s r
+  unfolding write record_of clean_bytes head
   write_read =
       rw (
-        flags-back (at s 3) (oneIfAny (map packageOf r.1)) (b.below 3) w.fragment (w.standard ∙ sym (any-filled fills)),
+        flags-back (at s 3) (one_if_any (map package_of r.1)) (b.below 3) w.fragment (w.standard ∙ sym (any-filled fills)),
         pieces-clean fills payload-bytes,
         w.header.version,
         w.header.kind,

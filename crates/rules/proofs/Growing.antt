@@ -12,7 +12,7 @@ use Rattle.rules.specs.Packages.{Package}
 use Rattle.rules.specs.Message.{Message}
 use Rattle.rules.specs.Sheet.{Row}
 use Rattle.rules.specs.Items.{count, All, all_nil, all_cons}
-use Rattle.rules.specs.Copy.{granted, Entry, grantedPackages, withEntryOf, released, copyMessage, copyMessages}
+use Rattle.rules.specs.Copy.{granted, Entry, granted_packages, with_entry_of, released, copy_message, copy_messages}
 
 -- the message id of an entry
 abbrev pub id_of : Entry → ℕ
@@ -36,58 +36,58 @@ map-replicate f zero a = refl
 map-replicate f (suc n) a = ap (λ (l : List _). f a ∷ l) (map-replicate f n a)
 
 -- the released list of more messages
-withEntryOf-append : (m : Message) (ps : List Package) (es fs : List Entry) → withEntryOf m ps (es ++ fs) ≡ withEntryOf m ps es ++ fs
-unfolding withEntryOf
-withEntryOf-append m [] es fs = refl
-withEntryOf-append m (p ∷ ps) es fs = refl
+with_entry_of-append : (m : Message) (ps : List Package) (es fs : List Entry) → with_entry_of m ps (es ++ fs) ≡ with_entry_of m ps es ++ fs
+unfolding with_entry_of
+with_entry_of-append m [] es fs = refl
+with_entry_of-append m (p ∷ ps) es fs = refl
 
-pub granted-append : (rs : List Row) (m : Message) (ks ls : List Package) → grantedPackages rs m (ks ++ ls) ≡ grantedPackages rs m ks ++ grantedPackages rs m ls
-unfolding grantedPackages
+pub granted-append : (rs : List Row) (m : Message) (ks ls : List Package) → granted_packages rs m (ks ++ ls) ≡ granted_packages rs m ks ++ granted_packages rs m ls
+unfolding granted_packages
 granted-append rs m [] ls = refl
 granted-append rs m (k ∷ ks) ls = go (granted rs m k) (granted-append rs m ks ls)
   where
-    go : (b : Bool) → grantedPackages rs m (ks ++ ls) ≡ grantedPackages rs m ks ++ grantedPackages rs m ls
-        → elim b [ true ↦ k ∷ grantedPackages rs m (ks ++ ls) | false ↦ grantedPackages rs m (ks ++ ls) ]
-        ≡ elim b [ true ↦ k ∷ grantedPackages rs m ks | false ↦ grantedPackages rs m ks ] ++ grantedPackages rs m ls
+    go : (b : Bool) → granted_packages rs m (ks ++ ls) ≡ granted_packages rs m ks ++ granted_packages rs m ls
+        → elim b [ true ↦ k ∷ granted_packages rs m (ks ++ ls) | false ↦ granted_packages rs m (ks ++ ls) ]
+        ≡ elim b [ true ↦ k ∷ granted_packages rs m ks | false ↦ granted_packages rs m ks ] ++ granted_packages rs m ls
     go true e = rw e
     go false e = e
 
 -- what is granted alike is kept alike, by whatever rows and of whatever message
-pub granted-alike : (rs rs' : List Row) (m m' : Message) → ((k : Package) → granted rs m k ≡ granted rs' m' k) → (ks : List Package) → grantedPackages rs m ks ≡ grantedPackages rs' m' ks
-unfolding grantedPackages
-granted-alike rs rs' m m' h [] = refl
-granted-alike rs rs' m m' h (k ∷ ks) = ap₂ (λ (b : Bool) (l : List Package). elim b [ true ↦ k ∷ l | false ↦ l ]) (h k) (granted-alike rs rs' m m' h ks)
+pub granted_alike : (rs rs' : List Row) (m m' : Message) → ((k : Package) → granted rs m k ≡ granted rs' m' k) → (ks : List Package) → granted_packages rs m ks ≡ granted_packages rs' m' ks
+unfolding granted_packages
+granted_alike rs rs' m m' h [] = refl
+granted_alike rs rs' m m' h (k ∷ ks) = ap₂ (λ (b : Bool) (l : List Package). elim b [ true ↦ k ∷ l | false ↦ l ]) (h k) (granted_alike rs rs' m m' h ks)
 
 -- what one message releases
 module _ (rs : List Row) (m : Message) where
-  pub released-entry : (k : Package) (ks : List Package) → grantedPackages rs m m.packages ≡ k ∷ ks
+  pub released-entry : (k : Package) (ks : List Package) → granted_packages rs m m.packages ≡ k ∷ ks
       → released rs (m ∷ []) ≡ record { id = m.id; seconds = m.seconds; nanos = m.nanos; flags = m.flags / 2 % 8 * 2; packages = k ∷ ks } ∷ []
-  unfolding released withEntryOf
-  released-entry k ks e = ap (λ (ps : List Package). withEntryOf m ps []) e
+  unfolding released with_entry_of
+  released-entry k ks e = ap (λ (ps : List Package). with_entry_of m ps []) e
 
-  pub released-none : grantedPackages rs m m.packages ≡ [] → released rs (m ∷ []) ≡ []
-  unfolding released withEntryOf
-  released-none e = ap (λ (ps : List Package). withEntryOf m ps []) e
+  pub released-none : granted_packages rs m m.packages ≡ [] → released rs (m ∷ []) ≡ []
+  unfolding released with_entry_of
+  released-none e = ap (λ (ps : List Package). with_entry_of m ps []) e
 
 pub released-append : (rs : List Row) (ms ns : List Message) → released rs (ms ++ ns) ≡ released rs ms ++ released rs ns
 unfolding released
 released-append rs [] ns = refl
-released-append rs (m ∷ ms) ns = rw (released-append rs ms ns, withEntryOf-append)
+released-append rs (m ∷ ms) ns = rw (released-append rs ms ns, with_entry_of-append)
 
 -- one message more: no entry, or one
-pub released-snoc : (rs : List Row) (ms : List Message) (m : Message) → released rs (ms ++ (m ∷ [])) ≡ released rs ms ++ withEntryOf m (grantedPackages rs m m.packages) []
+pub released_snoc : (rs : List Row) (ms : List Message) (m : Message) → released rs (ms ++ (m ∷ [])) ≡ released rs ms ++ with_entry_of m (granted_packages rs m m.packages) []
 unfolding released
-released-snoc rs ms m = released-append rs ms (m ∷ [])
+released_snoc rs ms m = released-append rs ms (m ∷ [])
 
 -- the ids of the entries es, the latest first, in front of those seen before
 ids : List Entry → List ℕ → List ℕ
 ids [] seen = seen
 ids (e ∷ es) seen = ids es (e.id ∷ seen)
 
-copyMessages-append : (seen : List ℕ) (es fs : List Entry) → copyMessages seen (es ++ fs) ≡ copyMessages seen es ++ copyMessages (ids es seen) fs
-unfolding copyMessages ids
-copyMessages-append seen [] fs = refl
-copyMessages-append seen (e ∷ es) fs = ap (λ (r : List Message). copyMessage (count e.id seen) e ∷ r) (copyMessages-append (e.id ∷ seen) es fs)
+copy_messages-append : (seen : List ℕ) (es fs : List Entry) → copy_messages seen (es ++ fs) ≡ copy_messages seen es ++ copy_messages (ids es seen) fs
+unfolding copy_messages ids
+copy_messages-append seen [] fs = refl
+copy_messages-append seen (e ∷ es) fs = ap (λ (r : List Message). copy_message (count e.id seen) e ∷ r) (copy_messages-append (e.id ∷ seen) es fs)
 
 -- how often an id was seen does not depend on the order
 count-ids : (x : ℕ) (es : List Entry) (seen : List ℕ) → count x (ids es seen) ≡ count x (map id_of es) + count x seen
@@ -101,8 +101,8 @@ count-ids x (e ∷ es) seen = count-ids x es (e.id ∷ seen) ∙ go (eqb x e.id)
     go false = refl
 
 -- the message of one entry more, and its copy
-pub copyMessages-snoc : (es : List Entry) (e : Entry) → copyMessages [] (es ++ (e ∷ [])) ≡ copyMessages [] es ++ (copyMessage (count e.id (map id_of es)) e ∷ [])
-unfolding copyMessages count
-copyMessages-snoc es e =
+pub copy_messages_snoc : (es : List Entry) (e : Entry) → copy_messages [] (es ++ (e ∷ [])) ≡ copy_messages [] es ++ (copy_message (count e.id (map id_of es)) e ∷ [])
+unfolding copy_messages count
+copy_messages_snoc es e =
     let c : count e.id (ids es []) ≡ count e.id (map id_of es) = count-ids e.id es [] ∙ add-zero _ in
-    rw (copyMessages-append [] es (e ∷ []), c)
+    rw (copy_messages-append [] es (e ∷ []), c)

@@ -9,8 +9,8 @@ use lib.ListN.{length, take, drop, set}
 use lib.Seq.{sets, sets-eq, length-sets, drop-set-lt, take-append_seam}
 use Rattle.rules.specs.Outcome.{Outcome, good, bad, ◌>>=◌, ROOM}
 use Rattle.rules.specs.Buffer.{Written, unwritten, fitted, stored}
-use Rattle.rules.specs.Copy.{Entry, copyBytes, reported, filled, answered}
-use Rattle.rules.specs.Burst.{randomizedAnswer, openedAnswer}
+use Rattle.rules.specs.Copy.{Entry, copy_bytes, reported, filled, answered}
+use Rattle.rules.specs.Burst.{randomized_answer, opened_answer}
 use Rattle.rules.specs.Claims.{Careful}
 use Rattle.rules.proofs.Outcomes.{pass, halt, step}
 
@@ -19,31 +19,31 @@ drop-sets [] b i = refl
 drop-sets (x ∷ s) b i = rw (add-suc, ← suc-add) (drop-sets s (set b i x) (suc i) ∙ drop-set-lt (suc i + length s) b i x (omega arith))
 
 -- s stored at the start of a buffer
-pub careful-sets : (b s : List ℕ) → Careful 0 (length s) b (sets b 0 s)
-careful-sets b s = record { refused = λ h. absurd (h refl); behind = rw zero-add at (drop-sets s b 0); long = length-sets b 0 s }
+pub careful_sets : (b s : List ℕ) → Careful 0 (length s) b (sets b 0 s)
+careful_sets b s = record { refused = λ h. absurd (h refl); behind = rw zero-add at (drop-sets s b 0); long = length-sets b 0 s }
 
 -- nothing stored
-pub careful-none : (number : ℕ) (b : List ℕ) → Careful number 0 b b
-careful-none number b = record { refused = λ h. refl; behind = refl; long = refl }
+pub careful_none : (number : ℕ) (b : List ℕ) → Careful number 0 b b
+careful_none number b = record { refused = λ h. refl; behind = refl; long = refl }
 
-pub careful-stored : (b : List ℕ) (o : Outcome (List ℕ)) → Careful (stored b o).0.number (stored b o).0.bytes b (stored b o).1
+pub careful_stored : (b : List ℕ) (o : Outcome (List ℕ)) → Careful (stored b o).0.number (stored b o).0.bytes b (stored b o).1
 unfolding stored
-careful-stored b (good s) = careful-sets b s
-careful-stored b (bad n p) = careful-none n b
+careful_stored b (good s) = careful_sets b s
+careful_stored b (bad n p) = careful_none n b
 
-pub careful-answered : (b : List ℕ) (o : Outcome (List Entry)) → Careful (answered b o).0.number (answered b o).0.bytes b (answered b o).1
+pub careful_answered : (b : List ℕ) (o : Outcome (List Entry)) → Careful (answered b o).0.number (answered b o).0.bytes b (answered b o).1
 unfolding answered reported filled
-careful-answered b (good es) = careful-sets b (copyBytes es)
-careful-answered b (bad n p) = careful-none n b
+careful_answered b (good es) = careful_sets b (copy_bytes es)
+careful_answered b (bad n p) = careful_none n b
 
 -- what works in the buffer itself leaves it where it refuses
-pub kept-randomized : (b : List ℕ) (o : Outcome (List ℕ)) → ((randomizedAnswer b o).0.number ≡ 0 → ⊥) → (randomizedAnswer b o).1 ≡ b
-unfolding randomizedAnswer
+pub kept-randomized : (b : List ℕ) (o : Outcome (List ℕ)) → ((randomized_answer b o).0.number ≡ 0 → ⊥) → (randomized_answer b o).1 ≡ b
+unfolding randomized_answer
 kept-randomized b (good s) h = absurd (h refl)
 kept-randomized b (bad n p) h = refl
 
-pub kept-opened : (b : List ℕ) (o : Outcome (ℕ × List ℕ)) → ((openedAnswer b o).0.number ≡ 0 → ⊥) → (openedAnswer b o).1 ≡ b
-unfolding openedAnswer
+pub kept-opened : (b : List ℕ) (o : Outcome (ℕ × List ℕ)) → ((opened_answer b o).0.number ≡ 0 → ⊥) → (opened_answer b o).1 ≡ b
+unfolding opened_answer
 kept-opened b (good r) h = absurd (h refl)
 kept-opened b (bad n p) h = refl
 

@@ -8,8 +8,8 @@ use lib.ListN.{length, take, drop, length-append, length-drop, take-append-drop}
 use lib.Seq.{length-take-le, drop-append_seam, take-add, drop-drop}
 use Rattle.rules.specs.Outcome.{Outcome, good, bad, ◌∷>◌}
 use Rattle.rules.specs.Items.{items}
-use Rattle.rules.proofs.Outcomes.{stop-front, stepped, fronted, front_of, refused-step, refused-front, good≢bad}
-use Rattle.rules.proofs.Walk.{items-next, items-stop, items-behind}
+use Rattle.rules.proofs.Outcomes.{stop_front, stepped, fronted, front_of_lem, refused-step, refused-front, good≢bad}
+use Rattle.rules.proofs.Walk.{items-next, items_stop, items-behind}
 
 -- any bytes are fine
 abbrev pub Any : List ℕ → Type 0
@@ -42,8 +42,8 @@ module _ {A : Type 0} (read : ℕ → List ℕ → Outcome (A × ℕ)) (Fine : L
         let d : drop n (take n s ++ t) ≡ t = rw z at (drop-append_seam (take n s) t) in
         items-next read p (take n s ++ t) a n (omega (arith, length-append (take n s) t, z, o.least)) o.least (o.again p t) ∙ ap (λ (u : List ℕ). a ∷> items read 0 (p + n) u) d
 
-    stopped-next : (p : ℕ) (s : List ℕ) (a : A) (k : ℕ) {n q : ℕ} → Owns s a k → Stopped (p + k) (drop k s) n q → Stopped p s n q
-    stopped-next p s a k o w =
+    stopped_next : (p : ℕ) (s : List ℕ) (a : A) (k : ℕ) {n q : ℕ} → Owns s a k → Stopped (p + k) (drop k s) n q → Stopped p s n q
+    stopped_next p s a k o w =
         let front : take (k + w.place) s ≡ take k s ++ take w.place (drop k s) = take-add k w.place s in
         let y : p + (k + w.place) ≡ p + k + w.place = omega arith in
         record {
@@ -51,7 +51,7 @@ module _ {A : Type 0} (read : ℕ → List ℕ → Outcome (A × ℕ)) (Fine : L
           inside = omega (arith, w.inside, length-drop k s, o.most);
           whole = rw front (o.joined (take w.place (drop k s)) w.whole);
           before = a ∷ w.before;
-          passes = rw front (ahead p s (take w.place (drop k s)) a k o ∙ front_of _ _ w.passes);
+          passes = rw front (ahead p s (take w.place (drop k s)) a k o ∙ front_of_lem _ _ w.passes);
           refused = rw (y, ← drop-drop w.place k s) w.refused;
         }
 
@@ -67,15 +67,15 @@ module _ {A : Type 0} (read : ℕ → List ℕ → Outcome (A × ℕ)) (Fine : L
         (λ g.
         let o = own p (x ∷ s) g.0.0 g.0.1 f (omega arith) g.1 in
         let r = sym (items-behind read g.0.1 p x s o.least) ∙ refused-front _ _ g.2 in
-        stopped-next p (x ∷ s) g.0.0 g.0.1 o (shorter (p + g.0.1) (drop g.0.1 (x ∷ s)) (omega (arith, length-drop g.0.1 (x ∷ s), o.least)) o.rest r))
+        stopped_next p (x ∷ s) g.0.0 g.0.1 o (shorter (p + g.0.1) (drop g.0.1 (x ∷ s)) (omega (arith, length-drop g.0.1 (x ∷ s), o.least)) o.rest r))
         (refused-step _ _ e)
 
-    stopped-within : (most p : ℕ) (s : List ℕ) {n q : ℕ} → length s ≤ most → Fine s → items read 0 p s ≡ bad n q → Stopped p s n q
-    stopped-within zero p s l f e = stopped_by p s (λ p' s' h. absurd (omega arith)) f e
-    stopped-within (suc most) p s l f e = stopped_by p s (λ p' s' h f' e'. stopped-within most p' s' (omega arith) f' e') f e
+    stopped_within : (most p : ℕ) (s : List ℕ) {n q : ℕ} → length s ≤ most → Fine s → items read 0 p s ≡ bad n q → Stopped p s n q
+    stopped_within zero p s l f e = stopped_by p s (λ p' s' h. absurd (omega arith)) f e
+    stopped_within (suc most) p s l f e = stopped_by p s (λ p' s' h f' e'. stopped_within most p' s' (omega arith) f' e') f e
 
     pub stopped : (p : ℕ) (s : List ℕ) {n q : ℕ} → Fine s → items read 0 p s ≡ bad n q → Stopped p s n q
-    stopped p s f e = stopped-within (length s) p s (omega arith) f e
+    stopped p s f e = stopped_within (length s) p s (omega arith) f e
 
     -- and so refused they are
     module _ (t : List ℕ) (some : 1 ≤ length t) {n q : ℕ} where
@@ -83,7 +83,7 @@ module _ {A : Type 0} (read : ℕ → List ℕ → Outcome (A × ℕ)) (Fine : L
           → ((p' : ℕ) (s' : List ℕ) (l' : List A) → suc (length s') ≤ length s → Fine s' → items read 0 p' s' ≡ good l' → read (p' + length s') t ≡ bad n q → items read 0 p' (s' ++ t) ≡ bad n q)
           → Fine s → items read 0 p s ≡ good l → read (p + length s) t ≡ bad n q → items read 0 p (s ++ t) ≡ bad n q
       unfolding items
-      behind-by p [] shorter f e r = let z : p + 0 ≡ p = omega arith in items-stop read p t some (rw (← z) r)
+      behind-by p [] shorter f e r = let z : p + 0 ≡ p = omega arith in items_stop read p t some (rw (← z) r)
       behind-by p (x ∷ s) shorter f e r =
           let (g, i, d) = stepped _ _ e in
           let a = g.0 in
@@ -94,7 +94,7 @@ module _ {A : Type 0} (read : ℕ → List ℕ → Outcome (A × ℕ)) (Fine : L
           let z : p + k + length (drop k (x ∷ s)) ≡ p + length (x ∷ s) = omega (arith, c, o.most) in
           let y : (x ∷ s) ++ t ≡ take k (x ∷ s) ++ (drop k (x ∷ s) ++ t) = ap (λ (u : List ℕ). u ++ t) (sym (take-append-drop k (x ∷ s))) ∙ append_assoc (take k (x ∷ s)) (drop k (x ∷ s)) t in
           ap (items read 0 p) y ∙ ahead p (x ∷ s) (drop k (x ∷ s) ++ t) a k o
-          ∙ stop-front _ _ (shorter (p + k) (drop k (x ∷ s)) l (omega (arith, c, o.least)) o.rest (sym (items-behind read k p x s o.least) ∙ d) (rw z r))
+          ∙ stop_front _ _ (shorter (p + k) (drop k (x ∷ s)) l (omega (arith, c, o.least)) o.rest (sym (items-behind read k p x s o.least) ∙ d) (rw z r))
 
       behind-within : (most p : ℕ) (s : List ℕ) {l : List A} → length s ≤ most → Fine s → items read 0 p s ≡ good l → read (p + length s) t ≡ bad n q → items read 0 p (s ++ t) ≡ bad n q
       behind-within zero p s h f e r = behind-by p s (λ p' s' l' j. absurd (omega arith)) f e r

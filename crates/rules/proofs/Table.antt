@@ -8,31 +8,31 @@ use lib.Dec.{leb-suc-zero}
 use lib.ListN.{length}
 use Rattle.rules.specs.Outcome.{bad, SHORT, refuse, ◌>>◌, ◌>>=◌, ◌∷>◌}
 use Rattle.rules.specs.Bytes.{half, word}
-use Rattle.rules.specs.Options.{lengthAllowed, optionSize, optionFits, isSecond, optionRunFrom, countSaidFrom}
+use Rattle.rules.specs.Options.{length_allowed, option_size, option_fits, is_second, option_run_from, count_said_from}
 use Rattle.rules.specs.Items.{items, count}
-use Rattle.rules.specs.Packages.{packageFits, piece, packageOf, piece_of}
-use Rattle.rules.specs.Message.{head, checksOneToSix, optionRunLength, checksEightAndNine, checksOneToNine, checksOneToTen, everyCheck, recordOf, message, recording}
+use Rattle.rules.specs.Packages.{package_fits, piece, package_of, piece_of}
+use Rattle.rules.specs.Message.{head, checks_one_to_six, option_run_length, checks_eight_and_nine, checks_one_to_nine, checks_one_to_ten, every_check, record_of, message, recording}
 use Rattle.rules.specs.Buffer.{fitted}
 use Rattle.rules.specs.Writer.{write}
-use Rattle.rules.specs.Reading.{header, optionRun}
-use Rattle.rules.specs.Sheet.{bigEndian, row_of, rowFits, row, sheet, grants}
-use Rattle.rules.specs.Copy.{granted, grantedPackages, withEntryOf, released, copyMessage, copyMessages, copyBytes, packagesIn, releasedOf, room_for, answered, reported, filled, copy}
-use Rattle.rules.specs.Burst.{bits, byte_of, sequenceByte}
+use Rattle.rules.specs.Reading.{header, option_run}
+use Rattle.rules.specs.Sheet.{big_endian, row_of, row_fits, row, sheet, grants}
+use Rattle.rules.specs.Copy.{granted, granted_packages, with_entry_of, released, copy_message, copy_messages, copy_bytes, packages_in, released_of, room_for, answered, reported, filled, copy}
+use Rattle.rules.specs.Burst.{bits, byte_of, sequence_byte}
 use Rattle.rules.specs.Table.{Table}
-use Rattle.rules.proofs.Outcomes.{pass, halt, stop, stop-before}
-use Rattle.rules.proofs.Walk.{items-stop}
-use Rattle.rules.proofs.Sequence.{byte-periods}
+use Rattle.rules.proofs.Outcomes.{pass, halt, stop, stop_before}
+use Rattle.rules.proofs.Walk.{items_stop}
+use Rattle.rules.proofs.Sequence.{byte_periods}
 
 -- fewer than 24 bytes, whatever they are
 short : (s : List ℕ) → length s ≡ 23 → recording s ≡ bad SHORT 0
-unfolding recording message everyCheck checksOneToTen checksOneToNine optionRunLength checksOneToSix
+unfolding recording message every_check checks_one_to_ten checks_one_to_nine option_run_length checks_one_to_six
 short s l =
     pass _ _ _ _ (le-ltb 65536 (length s) (omega arith))
-    (items-stop message 0 s (omega arith)
-    (stop _ _ (stop _ _ (stop _ _ (stop _ _ (stop-before _ _ (halt _ _ _ _ (lt-ltb (length s) 24 (omega arith)))))))))
+    (items_stop message 0 s (omega arith)
+    (stop _ _ (stop _ _ (stop _ _ (stop _ _ (stop_before _ _ (halt _ _ _ _ (lt-ltb (length s) 24 (omega arith)))))))))
 
 pub table : Table
-unfolding refuse ◌>>◌ ◌>>=◌ ◌∷>◌ half word items count lengthAllowed optionSize optionFits isSecond optionRunFrom countSaidFrom packageFits piece packageOf piece_of head checksOneToSix optionRunLength checksEightAndNine checksOneToNine checksOneToTen everyCheck recordOf message recording header optionRun write bigEndian row_of rowFits row sheet grants granted grantedPackages withEntryOf released copyMessage copyMessages copyBytes packagesIn releasedOf room_for fitted answered reported filled copy bits byte_of sequenceByte
+unfolding refuse ◌>>◌ ◌>>=◌ ◌∷>◌ half word items count length_allowed option_size option_fits is_second option_run_from count_said_from package_fits piece package_of piece_of head checks_one_to_six option_run_length checks_eight_and_nine checks_one_to_nine checks_one_to_ten every_check record_of message recording header option_run write big_endian row_of row_fits row sheet grants granted granted_packages with_entry_of released copy_message copy_messages copy_bytes packages_in released_of room_for fitted answered reported filled copy bits byte_of sequence_byte
 table = record {
   P1 = λ buffer. rw (leb-suc-zero (length buffer));
   P2 = short;
@@ -51,5 +51,5 @@ table = record {
   P10 = refl;
   P10-room = refl;
   P11 = refl;
-  P12 = ap₂ (λ (x y : ℕ). 0xFF ∷ 0x48 ∷ 0x0E ∷ 0xC0 ∷ 0x9A ∷ x ∷ y ∷ []) (byte-periods 1 0) (byte-periods 3 3);
+  P12 = ap₂ (λ (x y : ℕ). 0xFF ∷ 0x48 ∷ 0x0E ∷ 0xC0 ∷ 0x9A ∷ x ∷ y ∷ []) (byte_periods 1 0) (byte_periods 3 3);
 }

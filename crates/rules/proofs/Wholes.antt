@@ -14,23 +14,23 @@ use lib.Seq.{get_or-take, length-take-le, drop-append_seam, take-add, drop-drop}
 use Rattle.rules.specs.Outcome.{good, bad, OPTION}
 use Rattle.rules.specs.Bytes.{at, word}
 use Rattle.rules.specs.Items.{Fills, none, more, count}
-use Rattle.rules.specs.Options.{lengthAllowed, optionSize, optionFits, isSecond, optionRunFrom, countSaidFrom, countSaid, kind_of, WholeOption}
+use Rattle.rules.specs.Options.{length_allowed, option_size, option_fits, is_second, option_run_from, count_said_from, count_said, kind_of, WholeOption}
 use Rattle.rules.specs.Claims.{WholeRun, Some, here, there}
 use Rattle.rules.proofs.Outcomes.{both, good≢bad, refused-at, some_inj, none≢some}
-use Rattle.rules.proofs.Run.{Going, run-inv, run-next, Kinds, short, long, kinds, bounds, Same, same}
+use Rattle.rules.proofs.Run.{Going, run_inv, run-next, Kinds, short, long, kinds, bounds, Same, same}
 use Rattle.rules.proofs.Numbers.{word-append}
 use Rattle.rules.proofs.Counts.{said_here, said-next}
 
 -- ---- second ones
 
-first_one : (x : ℕ) (seen : List ℕ) → isSecond x seen ≡ false → 0x86 ≤ x → x ≤ 0x87 → count x seen ≡ 0
-unfolding isSecond
+first_one : (x : ℕ) (seen : List ℕ) → is_second x seen ≡ false → 0x86 ≤ x → x ≤ 0x87 → count x seen ≡ 0
+unfolding is_second
 first_one x seen e a b =
     let l = ltb-false 0 (count x seen) (rw (le-leb 0x86 x a, le-leb x 0x87 b) at e) in
     omega arith
 
-no_second : (x : ℕ) (seen : List ℕ) → (0x86 ≤ x → x ≤ 0x87 → count x seen ≡ 0) → isSecond x seen ≡ false
-unfolding isSecond
+no_second : (x : ℕ) (seen : List ℕ) → (0x86 ≤ x → x ≤ 0x87 → count x seen ≡ 0) → is_second x seen ≡ false
+unfolding is_second
 no_second x seen h = go (leb 0x86 x) refl (leb x 0x87) refl
   where
     go : (a : Bool) → leb 0x86 x ≡ a → (b : Bool) → leb x 0x87 ≡ b → (a && b && ltb 0 (count x seen)) ≡ false
@@ -44,15 +44,15 @@ record Second (x : ℕ) (seen : List ℕ) : Type 0 where
   most : x ≤ 0x87
   met : 1 ≤ count x seen
 
-seconds : (x : ℕ) (seen : List ℕ) → isSecond x seen ≡ true → Second x seen
-unfolding isSecond
+seconds : (x : ℕ) (seen : List ℕ) → is_second x seen ≡ true → Second x seen
+unfolding is_second
 seconds x seen e =
     let (a, c) = both (leb 0x86 x && leb x 0x87) (ltb 0 (count x seen)) e in
     let (a, b) = both (leb 0x86 x) (leb x 0x87) a in
     record { least = leb-true _ _ a; most = leb-true _ _ b; met = ltb-true _ _ c }
 
-second-by : (x : ℕ) (seen : List ℕ) → 0x86 ≤ x → x ≤ 0x87 → 1 ≤ count x seen → isSecond x seen ≡ true
-unfolding isSecond
+second-by : (x : ℕ) (seen : List ℕ) → 0x86 ≤ x → x ≤ 0x87 → 1 ≤ count x seen → is_second x seen ≡ true
+unfolding is_second
 second-by x seen a b c = rw (le-leb 0x86 x a, le-leb x 0x87 b, lt-ltb 0 (count x seen) c)
 
 -- a kind counted among those seen or among those behind them
@@ -64,9 +64,9 @@ shifted x y seen kinds = go (eqb x y)
     go true = omega arith
     go false = refl
 
-met-first : (x : ℕ) (l : List ℕ) → count x (x ∷ l) ≡ suc (count x l)
+met_first : (x : ℕ) (l : List ℕ) → count x (x ∷ l) ≡ suc (count x l)
 unfolding count
-met-first x l = rw (eq-eqb x x refl, count)
+met_first x l = rw (eq-eqb x x refl, count)
 
 -- ---- a run that passes is whole options
 
@@ -83,9 +83,9 @@ record Wholes (seen run : List ℕ) : Type 0 where
 at-start : (n x : ℕ) (s : List ℕ) → 1 ≤ n → at (take n (x ∷ s)) 0 ≡ x
 at-start n x s l = get_or-take n (x ∷ s) 0 0 l
 
-option-of : (x : ℕ) (s : List ℕ) → 0 < x → optionFits (x ∷ s) ≡ true → WholeOption (take (optionSize (x ∷ s)) (x ∷ s))
-option-of x s k f =
-    let n : ℕ = optionSize (x ∷ s) in
+option_of : (x : ℕ) (s : List ℕ) → 0 < x → option_fits (x ∷ s) ≡ true → WholeOption (take (option_size (x ∷ s)) (x ∷ s))
+option_of x s k f =
+    let n : ℕ = option_size (x ∷ s) in
     let b = bounds (x ∷ s) (omega arith) f in
     let l : length (take n (x ∷ s)) ≡ n = length-take-le n (x ∷ s) b.most in
     let a : at (take n (x ∷ s)) 0 ≡ x = at-start n x s b.least in
@@ -100,7 +100,7 @@ ahead (suc n) x s cs h w r =
     rw take-append-drop at v
 
 -- no kind of the two is seen twice once one that is no second one has been seen too
-seen-once : (x : ℕ) (seen : List ℕ) → isSecond x seen ≡ false → ((y : ℕ) → 0x86 ≤ y → y ≤ 0x87 → count y seen ≤ 1) → (y : ℕ) → 0x86 ≤ y → y ≤ 0x87 → count y (x ∷ seen) ≤ 1
+seen-once : (x : ℕ) (seen : List ℕ) → is_second x seen ≡ false → ((y : ℕ) → 0x86 ≤ y → y ≤ 0x87 → count y seen ≤ 1) → (y : ℕ) → 0x86 ≤ y → y ≤ 0x87 → count y (x ∷ seen) ≤ 1
 unfolding count
 seen-once x seen e h y l m = go (eqb y x) refl
   where
@@ -111,25 +111,25 @@ seen-once x seen e h y l m = go (eqb y x) refl
         omega arith
     go false q = h y l m
 
-wholes-next : (seen : List ℕ) (p n x : ℕ) (s : List ℕ) {e : ℕ} → Going seen p n x s e → Wholes (x ∷ seen) (drop (optionSize (x ∷ s) - 1) s) → Wholes seen (x ∷ s)
-wholes-next seen p n x s g w =
+wholes_next : (seen : List ℕ) (p n x : ℕ) (s : List ℕ) {e : ℕ} → Going seen p n x s e → Wholes (x ∷ seen) (drop (option_size (x ∷ s) - 1) s) → Wholes seen (x ∷ s)
+wholes_next seen p n x s g w =
     let b = bounds (x ∷ s) (omega arith) g.fits in
-    let a : at (take (optionSize (x ∷ s)) (x ∷ s)) 0 ≡ x = at-start (optionSize (x ∷ s)) x s b.least in
+    let a : at (take (option_size (x ∷ s)) (x ∷ s)) 0 ≡ x = at-start (option_size (x ∷ s)) x s b.least in
     record {
-      options = take (optionSize (x ∷ s)) (x ∷ s) ∷ w.options;
-      fills = ahead (optionSize (x ∷ s)) x s w.options b.least (option-of x s g.kind g.fits) w.fills;
+      options = take (option_size (x ∷ s)) (x ∷ s) ∷ w.options;
+      fills = ahead (option_size (x ∷ s)) x s w.options b.least (option_of x s g.kind g.fits) w.fills;
       once = λ h y l m. rw (a, shifted y x seen (map kind_of w.options)) (w.once (seen-once x seen g.once h) y l m);
     }
 
-wholes : (seen : List ℕ) (k p n : ℕ) (s : List ℕ) {e : ℕ} → k ≤ length s → n + length s ≡ e → optionRunFrom seen k p n s ≡ good e → Wholes seen (drop k s)
-unfolding optionRunFrom count
+wholes : (seen : List ℕ) (k p n : ℕ) (s : List ℕ) {e : ℕ} → k ≤ length s → n + length s ≡ e → option_run_from seen k p n s ≡ good e → Wholes seen (drop k s)
+unfolding option_run_from count
 wholes seen (suc k) p n [] h l r = absurd (omega arith)
 wholes seen zero p n [] h l r = record { options = []; fills = none; once = λ c x a b. rw zero-add (c x a b) }
 wholes seen (suc k) p n (x ∷ s) h l r = wholes seen k p (suc n) s (omega arith) (omega arith) r
 wholes seen zero p n (x ∷ s) {e} h l r =
     ⊎_elim (λ z. absurd (omega arith))
-    (λ g. wholes-next seen p n x s g (wholes (x ∷ seen) (optionSize (x ∷ s) - 1) p (suc n) s (let b = bounds (x ∷ s) (omega arith) g.fits in omega (arith, b.most)) (omega arith) g.next))
-    (run-inv seen p n x s r)
+    (λ g. wholes_next seen p n x s g (wholes (x ∷ seen) (option_size (x ∷ s) - 1) p (suc n) s (let b = bounds (x ∷ s) (omega arith) g.fits in omega (arith, b.most)) (omega arith) g.next))
+    (run_inv seen p n x s r)
 
 -- ---- whole options, with none of the two kinds twice, are a run that passes
 
@@ -144,13 +144,13 @@ fronts c s w =
     let a : at (c ++ s) 0 ≡ at c 0 = get_or-append c s 0 0 (omega arith) in
     (same c (c ++ s) w.fits a (λ two. get_or-append c s 0 1 (omega (arith, w.whole))) (omega (arith, w.whole, length-append c s)), a)
 
-passing : (seen : List ℕ) (p n : ℕ) {cs : List (List ℕ)} {s : List ℕ} → Fills WholeOption cs s → Once seen cs → optionRunFrom seen 0 p n s ≡ good (n + length s)
-unfolding optionRunFrom
+passing : (seen : List ℕ) (p n : ℕ) {cs : List (List ℕ)} {s : List ℕ} → Fills WholeOption cs s → Once seen cs → option_run_from seen 0 p n s ≡ good (n + length s)
+unfolding option_run_from
 passing seen p n none o = rw add-zero
 passing seen p n (more {c = c} {cs = cs} {s = s} w r) o =
     let (f, a) = fronts c s w in
-    let z : optionSize (c ++ s) ≡ length c = f.size ∙ sym w.whole in
-    let k : isSecond (at c 0) seen ≡ false = no_second (at c 0) seen (λ l m. omega (arith, o (at c 0) l m, met-first (at c 0) (map kind_of cs))) in
+    let z : option_size (c ++ s) ≡ length c = f.size ∙ sym w.whole in
+    let k : is_second (at c 0) seen ≡ false = no_second (at c 0) seen (λ l m. omega (arith, o (at c 0) l m, met_first (at c 0) (map kind_of cs))) in
     let e : n + length (c ++ s) ≡ n + length c + length s = omega (arith, length-append c s) in
     run-next seen p n (c ++ s) (rw a w.kind) f.fits (rw a k)
     ∙ rw (a, z, drop-append_seam, e) (passing (at c 0 ∷ seen) p (n + length c) r (λ x l m. rw (← shifted x (at c 0) seen (map kind_of cs)) (o x l m)))
@@ -164,9 +164,9 @@ only_two x l m = go (eqb x 0x86) refl
     go true e = inl (eqb-true _ _ e)
     go false e = inr (let n = eqb-false x 0x86 e in omega arith)
 
-whole_by : (run : List ℕ) → Wholes [] run → WholeRun run
+whole_by_lem : (run : List ℕ) → Wholes [] run → WholeRun run
 unfolding count
-whole_by run w =
+whole_by_lem run w =
     let one = w.once (λ x l m. omega arith) in
     (w.options, w.fills, rw add-zero at (one 0x86 (omega arith) (omega arith)), rw add-zero at (one 0x87 (omega arith) (omega arith)))
 
@@ -174,26 +174,26 @@ once_by : (run : List ℕ) (w : WholeRun run) → Once [] w.0
 unfolding count
 once_by run w x l m = rw add-zero (⊎_elim (λ e. rw e w.2) (λ e. rw e w.3) (only_two x l m))
 
-pub whole-run-by : (run : List ℕ) → (optionRunFrom [] 0 0 0 run ≡ good (length run)) ↔ WholeRun run
-whole-run-by run = (λ e. whole_by run (wholes [] 0 0 0 run (omega arith) (omega arith) e), λ w. rw zero-add at (passing [] 0 0 w.1 (once_by run w)))
+pub whole-run-by : (run : List ℕ) → (option_run_from [] 0 0 0 run ≡ good (length run)) ↔ WholeRun run
+whole-run-by run = (λ e. whole_by_lem run (wholes [] 0 0 0 run (omega arith) (omega arith) e), λ w. rw zero-add at (passing [] 0 0 w.1 (once_by run w)))
 
 -- ---- option bytes that are refused at an option, or behind it
 
 data Halting (seen : List ℕ) (p n x : ℕ) (s : List ℕ) (m q : ℕ) : Type 0 where
-  unfit : optionFits (x ∷ s) ≡ false → OPTION ≡ m → p + n ≡ q → Halting seen p n x s m q
-  second : isSecond x seen ≡ true → OPTION ≡ m → p + n ≡ q → Halting seen p n x s m q
-  later : 0 < x → optionFits (x ∷ s) ≡ true → optionRunFrom (x ∷ seen) (optionSize (x ∷ s) - 1) p (suc n) s ≡ bad m q → Halting seen p n x s m q
+  unfit : option_fits (x ∷ s) ≡ false → OPTION ≡ m → p + n ≡ q → Halting seen p n x s m q
+  second : is_second x seen ≡ true → OPTION ≡ m → p + n ≡ q → Halting seen p n x s m q
+  later : 0 < x → option_fits (x ∷ s) ≡ true → option_run_from (x ∷ seen) (option_size (x ∷ s) - 1) p (suc n) s ≡ bad m q → Halting seen p n x s m q
 
-halting : (seen : List ℕ) (p n x : ℕ) (s : List ℕ) {m q : ℕ} → optionRunFrom seen 0 p n (x ∷ s) ≡ bad m q → Halting seen p n x s m q
-unfolding optionRunFrom
+halting : (seen : List ℕ) (p n x : ℕ) (s : List ℕ) {m q : ℕ} → option_run_from seen 0 p n (x ∷ s) ≡ bad m q → Halting seen p n x s m q
+unfolding option_run_from
 halting seen p n x s {m} {q} h = go (eqb x 0) refl
   where
     go : (b : Bool) → eqb x 0 ≡ b → Halting seen p n x s m q
-    go true t = absurd (good≢bad (sym (rw (t, optionRunFrom) at h)))
+    go true t = absurd (good≢bad (sym (rw (t, option_run_from) at h)))
     go false t =
         ⊎_elim (λ a. unfit (not-true _ a.0) a.1 a.2)
         (λ f. ⊎_elim (λ a. second a.0 a.1 a.2) (λ g. later (pos_of_ne-zero (eqb-false x 0 t)) (not-false _ f.0) g.1) (refused-at _ _ _ _ f.1))
-        (refused-at _ _ _ _ (rw (t, optionRunFrom) at h))
+        (refused-at _ _ _ _ (rw (t, option_run_from) at h))
 
 -- the second one that stands at place d, behind these options and those seen
 record SecondAt (seen : List ℕ) (d : ℕ) (s : List ℕ) (options : List (List ℕ)) : Type 0 where
@@ -210,7 +210,7 @@ pub record Stopped (seen : List ℕ) (p : ℕ) (s : List ℕ) (m q : ℕ) : Type
   pub place : q ≡ p + before
   pub options : List (List ℕ)
   pub fills : Fills WholeOption options (take before s)
-  fault : (optionFits (drop before s) ≡ false) ⊎ SecondAt seen before s options
+  fault : (option_fits (drop before s) ≡ false) ⊎ SecondAt seen before s options
 
 -- whole options in front of those before the place
 behind : (seen : List ℕ) (k p x : ℕ) (s : List ℕ) {m q : ℕ} → 1 ≤ k → WholeOption (take k (x ∷ s)) → Stopped (x ∷ seen) (suc p + (k - 1)) (drop (k - 1) s) m q → Stopped seen p (x ∷ s) m q
@@ -234,8 +234,8 @@ behind seen (suc k) p x s h c w =
       })) v.fault;
     }
 
-stopped : (seen : List ℕ) (k p n : ℕ) (s : List ℕ) {m q : ℕ} → k ≤ length s → optionRunFrom seen k p n s ≡ bad m q → Stopped seen (p + n + k) (drop k s) m q
-unfolding optionRunFrom
+stopped : (seen : List ℕ) (k p n : ℕ) (s : List ℕ) {m q : ℕ} → k ≤ length s → option_run_from seen k p n s ≡ bad m q → Stopped seen (p + n + k) (drop k s) m q
+unfolding option_run_from
 stopped seen zero p n [] h e = absurd (good≢bad (sym e))
 stopped seen (suc k) p n [] h e = absurd (omega arith)
 stopped seen (suc k) p n (x ∷ s) {m} {q} h e =
@@ -243,7 +243,7 @@ stopped seen (suc k) p n (x ∷ s) {m} {q} h e =
     subst (λ (i : ℕ). Stopped seen i (drop k s) m q) z (stopped seen k p (suc n) s (omega arith) e)
 stopped seen zero p n (x ∷ s) {m} {q} h e = go (halting seen p n x s e) (λ k l f. stopped (x ∷ seen) k p (suc n) s l f)
   where
-    go : Halting seen p n x s m q → ((k : ℕ) → k ≤ length s → optionRunFrom (x ∷ seen) k p (suc n) s ≡ bad m q → Stopped (x ∷ seen) (p + suc n + k) (drop k s) m q) → Stopped seen (p + n + 0) (x ∷ s) m q
+    go : Halting seen p n x s m q → ((k : ℕ) → k ≤ length s → option_run_from (x ∷ seen) k p (suc n) s ≡ bad m q → Stopped (x ∷ seen) (p + suc n + k) (drop k s) m q) → Stopped seen (p + n + 0) (x ∷ s) m q
     go (unfit f a b) rest = record { before = 0; number = sym a; place = omega arith; options = []; fills = none; fault = inl f }
     go (second f a b) rest =
         let c = seconds x seen f in
@@ -257,12 +257,12 @@ stopped seen zero p n (x ∷ s) {m} {q} h e = go (halting seen p n x s e) (λ k 
         }
     go (later k f e) rest =
         let b = bounds (x ∷ s) (omega arith) f in
-        rw add-zero (behind seen (optionSize (x ∷ s)) (p + n) x s b.least (option-of x s k f) (rw add-suc at (rest (optionSize (x ∷ s) - 1) (omega (arith, b.most)) e)))
+        rw add-zero (behind seen (option_size (x ∷ s)) (p + n) x s b.least (option_of x s k f) (rw add-suc at (rest (option_size (x ∷ s) - 1) (omega (arith, b.most)) e)))
 
-pub option-stopped : (p : ℕ) (o : List ℕ) {n q : ℕ} → optionRunFrom [] 0 p 0 o ≡ bad n q → Stopped [] p o n q
-option-stopped p o e = rw (add-zero, add-zero) at (stopped [] 0 p 0 o (omega arith) e)
+pub option_stopped : (p : ℕ) (o : List ℕ) {n q : ℕ} → option_run_from [] 0 p 0 o ≡ bad n q → Stopped [] p o n q
+option_stopped p o e = rw (add-zero, add-zero) at (stopped [] 0 p 0 o (omega arith) e)
 
-pub fault-at : (p : ℕ) (o : List ℕ) {n q : ℕ} (w : Stopped [] p o n q) → (optionFits (drop w.before o) ≡ false) ⊎ (isSecond (kind_of (drop w.before o)) (map kind_of w.options) ≡ true)
+pub fault-at : (p : ℕ) (o : List ℕ) {n q : ℕ} (w : Stopped [] p o n q) → (option_fits (drop w.before o) ≡ false) ⊎ (is_second (kind_of (drop w.before o)) (map kind_of w.options) ≡ true)
 unfolding count
 fault-at p o w =
     ⊎_elim (λ f. inl f) (λ f. inr (rw (← f.is) (second-by f.kind (map kind_of w.options) f.least f.most (rw add-zero at f.met)))) w.fault
@@ -270,9 +270,9 @@ fault-at p o w =
 -- ---- the number that a run says
 
 -- an option 0x87 has six bytes
-six : (k n : ℕ) → k ≡ 0x87 → lengthAllowed k n ≡ true → n ≡ 6
-unfolding lengthAllowed
-six k n e f = eqb-true n 6 (both (leb 2 n && leb n 60) (eqb n 6) (subst (λ (z : ℕ). lengthAllowed z n ≡ true) e f)).1
+six : (k n : ℕ) → k ≡ 0x87 → length_allowed k n ≡ true → n ≡ 6
+unfolding length_allowed
+six k n e f = eqb-true n 6 (both (leb 2 n && leb n 60) (eqb n 6) (subst (λ (z : ℕ). length_allowed z n ≡ true) e f)).1
 
 sixth : (c : List ℕ) → WholeOption c → at c 0 ≡ 0x87 → length c ≡ 6
 sixth c w e = go (kinds c w.fits)
@@ -286,18 +286,18 @@ abbrev Says : ℕ → List ℕ → Type 0
 Says n c = (kind_of c ≡ 0x87) × (word c 2 ≡ n)
 
 -- where an option says a number there is an option 0x87
-some-met : (n : ℕ) {cs : List (List ℕ)} → Some (Says n) cs → 1 ≤ count 0x87 (map kind_of cs)
+some_met : (n : ℕ) {cs : List (List ℕ)} → Some (Says n) cs → 1 ≤ count 0x87 (map kind_of cs)
 unfolding count
-some-met n (here {a = c} {l = cs} e) = rw e.0 (omega (arith, met-first 0x87 (map kind_of cs)))
-some-met n (there {a = c} {l = cs} r) = go (eqb 0x87 (kind_of c)) (some-met n r)
+some_met n (here {a = c} {l = cs} e) = rw e.0 (omega (arith, met_first 0x87 (map kind_of cs)))
+some_met n (there {a = c} {l = cs} r) = go (eqb 0x87 (kind_of c)) (some_met n r)
   where
     go : (b : Bool) → 1 ≤ count 0x87 (map kind_of cs) → 1 ≤ elim b [ true ↦ suc (count 0x87 (map kind_of cs)) | false ↦ count 0x87 (map kind_of cs) ]
     go true h = omega arith
     go false h = h
 
-none-met : (n : ℕ) → Some (Says n) [] → ⊥
+none_met : (n : ℕ) → Some (Says n) [] → ⊥
 unfolding count
-none-met n w = omega (arith, some-met n w)
+none_met n w = omega (arith, some_met n w)
 
 later-less : (x y : ℕ) (l : List ℕ) → count x l ≤ count x (y ∷ l)
 unfolding count
@@ -310,27 +310,27 @@ later-less x y l = go (eqb x y)
 -- the option 0x87 that stands first says it, or one behind an option of another kind
 by_first : (n : ℕ) (c : List ℕ) (cs : List (List ℕ)) → count 0x87 (map kind_of (c ∷ cs)) ≤ 1 → at c 0 ≡ 0x87 → Some (Says n) (c ∷ cs) → word c 2 ≡ n
 by_first n c cs l q (here e) = e.1
-by_first n c cs l q (there h) = absurd (omega (arith, rw q at l, some-met n h, met-first 0x87 (map kind_of cs)))
+by_first n c cs l q (there h) = absurd (omega (arith, rw q at l, some_met n h, met_first 0x87 (map kind_of cs)))
 
 by-later : (n : ℕ) (c : List ℕ) (cs : List (List ℕ)) → (at c 0 ≡ 0x87 → ⊥) → Some (Says n) (c ∷ cs) → Some (Says n) cs
 by-later n c cs q (here e) = absurd (q e.0)
 by-later n c cs q (there h) = h
 
 -- the number said is that of the one option 0x87
-pub said-by : {cs : List (List ℕ)} {s : List ℕ} → Fills WholeOption cs s → count 0x87 (map kind_of cs) ≤ 1 → (n : ℕ) → (countSaid s ≡ some n) ↔ Some (Says n) cs
-unfolding countSaidFrom
-said-by none l n = (λ e. absurd (none≢some e), λ w. absurd (none-met n w))
+pub said-by : {cs : List (List ℕ)} {s : List ℕ} → Fills WholeOption cs s → count 0x87 (map kind_of cs) ≤ 1 → (n : ℕ) → (count_said s ≡ some n) ↔ Some (Says n) cs
+unfolding count_said_from
+said-by none l n = (λ e. absurd (none≢some e), λ w. absurd (none_met n w))
 said-by (more {c = c} {cs = cs} {s = s} w r) l n = go (eqb (at c 0) 0x87) refl (λ h. said-by r h n)
   where
-    go : (b : Bool) → eqb (at c 0) 0x87 ≡ b → (count 0x87 (map kind_of cs) ≤ 1 → (countSaid s ≡ some n) ↔ Some (Says n) cs) → (countSaid (c ++ s) ≡ some n) ↔ Some (Says n) (c ∷ cs)
+    go : (b : Bool) → eqb (at c 0) 0x87 ≡ b → (count 0x87 (map kind_of cs) ≤ 1 → (count_said s ≡ some n) ↔ Some (Says n) cs) → (count_said (c ++ s) ≡ some n) ↔ Some (Says n) (c ∷ cs)
     go true e rest =
         let q : at c 0 ≡ 0x87 = eqb-true _ _ e in
-        let z : countSaid (c ++ s) ≡ some (word c 2) = said_here (c ++ s) ((fronts c s w).1 ∙ q) ∙ ap some (word-append c s 2 (omega (arith, sixth c w q))) in
+        let z : count_said (c ++ s) ≡ some (word c 2) = said_here (c ++ s) ((fronts c s w).1 ∙ q) ∙ ap some (word-append c s 2 (omega (arith, sixth c w q))) in
         (λ h. here (q, some_inj (sym z ∙ h)), λ h. z ∙ ap some (by_first n c cs l q h))
     go false e rest =
         let (f, a) = fronts c s w in
-        let z : optionSize (c ++ s) ≡ length c = f.size ∙ sym w.whole in
-        let y : countSaid (c ++ s) ≡ countSaid s =
+        let z : option_size (c ++ s) ≡ length c = f.size ∙ sym w.whole in
+        let y : count_said (c ++ s) ≡ count_said s =
         said-next (c ++ s) (omega (arith, length-append c s, long-enough c w.kind)) (λ q. eqb-false (at c 0) 0x87 e (sym a ∙ q)) (omega (arith, z, long-enough c w.kind))
         ∙ rw (z, drop-append_seam) in
         let r = rest (omega (arith, l, later-less 0x87 (at c 0) (map kind_of cs))) in

@@ -40,6 +40,6 @@ join [] = []
 join (c ∷ cs) = c ++ join cs
 
 -- 0 for the empty list, 1 for any other
-abbrev pub oneIfAny : {A : Type 0} → List A → ℕ
-oneIfAny [] = 0
-oneIfAny (x ∷ xs) = 1
+abbrev pub one_if_any : {A : Type 0} → List A → ℕ
+one_if_any [] = 0
+one_if_any (x ∷ xs) = 1

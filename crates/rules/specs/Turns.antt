@@ -5,16 +5,16 @@ use Rattle.rules.specs.Outcome.{good}
 use Rattle.rules.specs.Items.{passing}
 use Rattle.rules.specs.Packages.{Package}
 use Rattle.rules.specs.Message.{Message, recording}
-use Rattle.rules.specs.Copy.{Entry, withEntryOf, copy, delivered}
+use Rattle.rules.specs.Copy.{Entry, with_entry_of, copy, delivered}
 
 -- c is what copying a recording under a sheet delivers, with success, into some buffer: the recording passes, the sheet is valid, and that buffer has room
 abbrev pub Copied : List ℕ → List ℕ → List ℕ → Type 0
 Copied recordingBytes sheetBytes c = (buffer : List ℕ) × ((copy recordingBytes sheetBytes buffer).0.number ≡ 0) × (delivered (copy recordingBytes sheetBytes buffer) ≡ c)
 
 -- the released list, with a test of packages in the place of a sheet: in recording order the packages that pass it, and no entry for a message without one
-unfoldable pub releasedBy : (Message → Package → Bool) → List Message → List Entry
-releasedBy test [] = []
-releasedBy test (m ∷ ms) = withEntryOf m (passing (test m) m.packages) (releasedBy test ms)
+unfoldable pub released_by : (Message → Package → Bool) → List Message → List Entry
+released_by test [] = []
+released_by test (m ∷ ms) = with_entry_of m (passing (test m) m.packages) (released_by test ms)
 
 -- each element of the first list has its counterpart in the second, in order
 pub data Within {A : Type 0} (R : A → A → Type 0) : List A → List A → Type 0 where

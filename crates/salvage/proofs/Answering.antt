@@ -10,17 +10,17 @@ use Rattle.rules.specs.Outcome.{Outcome, good, bad, ◌>>=◌, ROOM}
 use Rattle.rules.specs.Buffer.{fitted}
 use Rattle.rules.proofs.Outcomes.{pass, halt, step, stop}
 use Rattle.refusal.specs.declared.Refusal.{Refusal}
-use Rattle.refusal.proofs.Numbers.{number-positive}
+use Rattle.refusal.proofs.Numbers.{number_positive}
 use Rattle.salvage.specs.Salvage as rule
 use Rattle.salvage.specs.Salvage.{salvaged, room_for, answered, salvage}
 use Rattle.salvage.specs.Claims as Claim
 use Rattle.salvage.specs.Claims.{without}
-use Rattle.salvage.specs.Told.{stretchIn, numbers, report, told, surveyed, reported, Fit}
+use Rattle.salvage.specs.Told.{stretch_in, numbers, report, told, surveyed, reported, Fit}
 use Rattle.salvage.specs.declared.SalvageAnswer.{SalvageAnswer}
 use Rattle.salvage.specs.declared.SalvageAnswer.TheVariants.{Done, Refused}
 use Rattle.salvage.specs.declared.Salvaged.{Salvaged}
 use Rattle.salvage.proofs.Cover.{stretches-fit}
-use Rattle.salvage.proofs.Claims.{kept_of, refused-exactly, output-is-rest}
+use Rattle.salvage.proofs.Claims.{kept_of_lem, refused-exactly, output-is-rest}
 
 -- a refusal has a number
 refused-number : (s : List ℕ) {n p : ℕ} → Claim.Refused s n p → n ≡ 0 → ⊥
@@ -47,7 +47,7 @@ bytes_good : (x : rule.Salvage) → (answered [] (good x)).0.bytes ≡ length x.
 unfolding answered
 bytes_good x = refl
 
-stretches-good : (x : rule.Salvage) → (answered [] (good x)).0.stretches ≡ x.stretches ++ replicate (64 - length x.stretches) rule.noStretch
+stretches-good : (x : rule.Salvage) → (answered [] (good x)).0.stretches ≡ x.stretches ++ replicate (64 - length x.stretches) rule.no_stretch
 unfolding answered
 stretches-good x = refl
 
@@ -67,7 +67,7 @@ pub record Ready (s : List ℕ) (n : ℕ) (hs : List rule.Stretch) (k : ℕ) : T
 
 ready_of : (s : List ℕ) (n : ℕ) (x : rule.Salvage) (hs : List rule.Stretch) (k : ℕ) → salvaged s ≡ good x → n ≡ length x.text → x.stretches ≡ hs → k ≡ length x.stretches → Ready s n hs k
 ready_of s n x hs k e l h c =
-    let y = kept_of s x e in
+    let y = kept_of_lem s x e in
     record {
       salvage = x;
       good = e;
@@ -80,7 +80,7 @@ ready_of s n x hs k e l h c =
 
 module _ (s : List ℕ) (r : Salvaged) (q : report r ≡ surveyed s) where
   abbrev hs : List rule.Stretch
-  hs = map stretchIn r.stretches
+  hs = map stretch_in r.stretches
 
   by-outcome : {o : Outcome rule.Salvage} → salvaged s ≡ o → report r ≡ (answered [] o).0
   by-outcome f = q ∙ ap (λ (o : Outcome rule.Salvage). (answered [] o).0) f
@@ -91,15 +91,15 @@ module _ (s : List ℕ) (r : Salvaged) (q : report r ≡ surveyed s) where
   salvage-refused x b e = go (salvaged s) refl
     where
       go : (o : Outcome rule.Salvage) → salvaged s ≡ o → told r b ≡ answered b (salvaged s >>= room_for b)
-      go (good y) f = absurd (number-positive x.why (sym (ap (λ (a : SalvageAnswer). (numbers a hs r.count).number) e) ∙ ap (λ (a : rule.Answer). a.number) (by-outcome f) ∙ number-good y))
+      go (good y) f = absurd (number_positive x.why (sym (ap (λ (a : SalvageAnswer). (numbers a hs r.count).number) e) ∙ ap (λ (a : rule.Answer). a.number) (by-outcome f) ∙ number-good y))
       go (bad n p) f = ap (λ (a : rule.Answer). (a, b)) (by-outcome f) ∙ sym (ap (answered b) (stop _ _ f) ∙ answer-bad b n p)
 
   module _ (n m : ℕ) (e : r.answer ≡ Done n m) where
     abbrev shown : List rule.Stretch
     shown = reported r.stretches r.count
 
-    stretches-of : (numbers r.answer hs r.count).stretches ≡ hs
-    stretches-of = rw e
+    stretches_of : (numbers r.answer hs r.count).stretches ≡ hs
+    stretches_of = rw e
 
     count_of : (numbers r.answer hs r.count).count ≡ r.count
     count_of = rw e
@@ -107,7 +107,7 @@ module _ (s : List ℕ) (r : Salvaged) (q : report r ≡ surveyed s) where
     shown-are : (x : rule.Salvage) → salvaged s ≡ good x → (x.stretches ≡ shown) × (r.count ≡ length x.stretches)
     shown-are x f =
         let c : r.count ≡ length x.stretches = sym count_of ∙ ap (λ (a : rule.Answer). a.count) (by-outcome f) ∙ count-good x in
-        let h : hs ≡ x.stretches ++ replicate (64 - length x.stretches) rule.noStretch = sym stretches-of ∙ ap (λ (a : rule.Answer). a.stretches) (by-outcome f) ∙ stretches-good x in
+        let h : hs ≡ x.stretches ++ replicate (64 - length x.stretches) rule.no_stretch = sym stretches_of ∙ ap (λ (a : rule.Answer). a.stretches) (by-outcome f) ∙ stretches-good x in
         (sym (ap (take r.count) h ∙ take_at x.stretches _ r.count (sym c)), c)
 
     pub ready : Ready s n shown r.count

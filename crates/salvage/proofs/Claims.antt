@@ -9,20 +9,20 @@ use lib.ListN.{length, take, drop, take-append-drop, length-append, length-drop}
 use lib.Seq.{drop-append_seam, length-take-le}
 use Rattle.rules.specs.Outcome.{Outcome, good, bad, ◌>>=◌, ROOM}
 use Rattle.rules.specs.Items.{items}
-use Rattle.rules.specs.Message.{mostBytes, Message, message, recording}
+use Rattle.rules.specs.Message.{most_bytes, Message, message, recording}
 use Rattle.rules.specs.Buffer.{fitted}
 use Rattle.rules.specs.Claims.{Careful}
-use Rattle.rules.proofs.Outcomes.{pass, halt, step, stop, passed, stepped, fronted, front_of, good-inj, good≢bad, refused-at, refused-step}
-use Rattle.rules.proofs.Walk.{items-next, items-stop}
+use Rattle.rules.proofs.Outcomes.{pass, halt, step, stop, passed, stepped, fronted, front_of_lem, good_inj, good≢bad, refused-at, refused-step}
+use Rattle.rules.proofs.Walk.{items-next, items_stop}
 use Rattle.rules.proofs.Alone.{message-moved, message-inside}
-use Rattle.rules.proofs.Kept.{careful-sets, careful-none, take-sets}
-use Rattle.salvage.specs.Salvage.{mostStretches, Piece, piece_at, keptText, keptCount, Stretch, stretchesFrom, Salvage, salvageOf, salvaged, room_for, answered, salvage}
+use Rattle.rules.proofs.Kept.{careful_sets, careful_none, take-sets}
+use Rattle.salvage.specs.Salvage.{most_stretches, Piece, piece_at, kept_text, kept_count, Stretch, stretches_from, Salvage, salvage_of, salvaged, room_for, answered, salvage}
 use Rattle.salvage.specs.Claims.{Salvages, end, keep, skip, PiecesExactly, CoveredOnce, StretchesRun, Kept, SalvagedExactly, without, OutputIsRest, Refused, large, holes, RefusedExactly, PassingKept, OutputPasses, SalvagedTwice, Reported, NothingReported, Writes}
-use Rattle.salvage.proofs.Pieces.{keptPiece, Reading, reads, fails, reading, found, salvages-found, found-salvages}
+use Rattle.salvage.proofs.Pieces.{kept_piece, Reading, reads, fails, reading, found, salvages-found, found-salvages}
 use Rattle.salvage.proofs.Gaps.{kept-rest}
 use Rattle.salvage.specs.Worked.{Worked}
-use Rattle.salvage.proofs.Worked.{worked-out}
-use Rattle.salvage.proofs.Cover.{covered-inside, covered-behind, stretches-apart}
+use Rattle.salvage.proofs.Worked.{worked_out}
+use Rattle.salvage.proofs.Cover.{covered_inside, covered_behind, stretches_apart}
 
 pub pieces-exactly : PiecesExactly
 pieces-exactly = record {
@@ -30,60 +30,60 @@ pieces-exactly = record {
   always = λ s. let f = found 0 s in (f.pieces, f.salvages);
 }
 
-pub covered-once : CoveredOnce
-covered-once = record { inside = covered-inside; behind = covered-behind }
+pub covered_once : CoveredOnce
+covered_once = record { inside = covered_inside; behind = covered_behind }
 
 pub stretches-run : StretchesRun
-stretches-run = stretches-apart
+stretches-run = stretches_apart
 
-abbrev ofPieces : List Piece → Salvage
-ofPieces qs = record { text = keptText qs; messages = keptCount qs; stretches = stretchesFrom [] qs }
+abbrev of_pieces : List Piece → Salvage
+of_pieces qs = record { text = kept_text qs; messages = kept_count qs; stretches = stretches_from [] qs }
 
-kept_by : (s : List ℕ) (qs : List Piece) → length s ≤ mostBytes → Salvages 0 s qs → length (stretchesFrom [] qs) ≤ mostStretches → Kept s (ofPieces qs)
-kept_by s qs l r h = record { small = l; pieces = qs; salvages = r; text = refl; messages = refl; stretches = refl; few = h }
+kept_by_lem : (s : List ℕ) (qs : List Piece) → length s ≤ most_bytes → Salvages 0 s qs → length (stretches_from [] qs) ≤ most_stretches → Kept s (of_pieces qs)
+kept_by_lem s qs l r h = record { small = l; pieces = qs; salvages = r; text = refl; messages = refl; stretches = refl; few = h }
 
-pub kept_of : (s : List ℕ) (x : Salvage) → salvaged s ≡ good x → Kept s x
-unfolding salvaged salvageOf
-kept_of s x e =
+pub kept_of_lem : (s : List ℕ) (x : Salvage) → salvaged s ≡ good x → Kept s x
+unfolding salvaged salvage_of
+kept_of_lem s x e =
     let (a, e) = passed _ _ _ _ e in
     let (qs, f, e) = stepped _ _ e in
     let (b, e) = passed _ _ _ _ e in
-    subst (Kept s) (good-inj e) (kept_by s qs (ltb-false _ _ a) (found-salvages s qs f) (ltb-false _ _ b))
+    subst (Kept s) (good_inj e) (kept_by_lem s qs (ltb-false _ _ a) (found-salvages s qs f) (ltb-false _ _ b))
 
-of-pieces : (s : List ℕ) (qs : List Piece) → length s ≤ mostBytes → Salvages 0 s qs → length (stretchesFrom [] qs) ≤ mostStretches → salvaged s ≡ good (ofPieces qs)
-unfolding salvaged salvageOf
-of-pieces s qs l r h =
-    pass _ _ _ _ (le-ltb mostBytes (length s) l) (step _ _ (salvages-found r) (pass _ _ _ _ (le-ltb mostStretches (length (stretchesFrom [] qs)) h) refl))
+of_pieces_lem : (s : List ℕ) (qs : List Piece) → length s ≤ most_bytes → Salvages 0 s qs → length (stretches_from [] qs) ≤ most_stretches → salvaged s ≡ good (of_pieces qs)
+unfolding salvaged salvage_of
+of_pieces_lem s qs l r h =
+    pass _ _ _ _ (le-ltb most_bytes (length s) l) (step _ _ (salvages-found r) (pass _ _ _ _ (le-ltb most_stretches (length (stretches_from [] qs)) h) refl))
 
-same-salvage : (x : Salvage) (t : List ℕ) (n : ℕ) (hs : List Stretch) → x.text ≡ t → x.messages ≡ n → x.stretches ≡ hs → record { text = t; messages = n; stretches = hs } ≡ x
-same-salvage x t n hs a b c = rw (← a, ← b, ← c)
+same_salvage : (x : Salvage) (t : List ℕ) (n : ℕ) (hs : List Stretch) → x.text ≡ t → x.messages ≡ n → x.stretches ≡ hs → record { text = t; messages = n; stretches = hs } ≡ x
+same_salvage x t n hs a b c = rw (← a, ← b, ← c)
 
 salvaged-by : (s : List ℕ) (x : Salvage) → Kept s x → salvaged s ≡ good x
-salvaged-by s x k = of-pieces s k.pieces k.small k.salvages (subst (λ (l : List Stretch). length l ≤ mostStretches) k.stretches k.few)
-    ∙ ap good (same-salvage x _ _ _ k.text k.messages k.stretches)
+salvaged-by s x k = of_pieces_lem s k.pieces k.small k.salvages (subst (λ (l : List Stretch). length l ≤ most_stretches) k.stretches k.few)
+    ∙ ap good (same_salvage x _ _ _ k.text k.messages k.stretches)
 
 pub salvaged-exactly : SalvagedExactly
-salvaged-exactly s x = (kept_of s x, salvaged-by s x)
+salvaged-exactly s x = (kept_of_lem s x, salvaged-by s x)
 
 pub output-is-rest : OutputIsRest
-output-is-rest s x e = let k = kept_of s x e in k.text ∙ kept-rest s k.pieces k.salvages ∙ ap (λ (hs : List Stretch). without hs 0 s) (sym k.stretches)
+output-is-rest s x e = let k = kept_of_lem s x e in k.text ∙ kept-rest s k.pieces k.salvages ∙ ap (λ (hs : List Stretch). without hs 0 s) (sym k.stretches)
 
 -- ---- refusals
 
 named : (s : List ℕ) {n p m q : ℕ} → m ≡ n → q ≡ p → Refused s m q → Refused s n p
 named s {n} {p} {m} {q} e f r = subst (λ (k : ℕ). Refused s k p) e (subst (Refused s m) f r)
 
-module _ (s : List ℕ) (n p : ℕ) (l : length s ≤ mostBytes) where
-  refused-pieces : (qs : List Piece) → items piece_at 0 0 s ≡ good qs → salvageOf qs ≡ bad n p → Refused s n p
-  unfolding salvageOf
+module _ (s : List ℕ) (n p : ℕ) (l : length s ≤ most_bytes) where
+  refused-pieces : (qs : List Piece) → items piece_at 0 0 s ≡ good qs → salvage_of qs ≡ bad n p → Refused s n p
+  unfolding salvage_of
   refused-pieces qs f e = ⊎_elim
       (λ z. named s z.1 z.2 (holes l (found-salvages s qs f) (ltb-true _ _ z.0)))
       (λ z. absurd (good≢bad (sym z.1)))
       (refused-at _ _ _ _ e)
 
-refused-of : (s : List ℕ) (n p : ℕ) → salvaged s ≡ bad n p → Refused s n p
+refused_of : (s : List ℕ) (n p : ℕ) → salvaged s ≡ bad n p → Refused s n p
 unfolding salvaged
-refused-of s n p e = ⊎_elim
+refused_of s n p e = ⊎_elim
     (λ z. named s z.1 z.2 (large (ltb-true _ _ z.0)))
     (λ z. ⊎_elim
     (λ f. absurd (good≢bad (sym f ∙ (found 0 s).finds)))
@@ -92,37 +92,37 @@ refused-of s n p e = ⊎_elim
     (refused-at _ _ _ _ e)
 
 refused-by : (s : List ℕ) {n p : ℕ} → Refused s n p → salvaged s ≡ bad n p
-unfolding salvaged salvageOf
-refused-by s (large h) = halt _ _ _ _ (lt-ltb mostBytes (length s) h)
+unfolding salvaged salvage_of
+refused-by s (large h) = halt _ _ _ _ (lt-ltb most_bytes (length s) h)
 refused-by s (holes {qs = qs} l r h) =
-    pass _ _ _ _ (le-ltb mostBytes (length s) l) (step _ _ (salvages-found r) (halt _ _ _ _ (lt-ltb mostStretches (length (stretchesFrom [] qs)) h)))
+    pass _ _ _ _ (le-ltb most_bytes (length s) l) (step _ _ (salvages-found r) (halt _ _ _ _ (lt-ltb most_stretches (length (stretches_from [] qs)) h)))
 
 pub refused-exactly : RefusedExactly
-refused-exactly s n p = (refused-of s n p, refused-by s)
+refused-exactly s n p = (refused_of s n p, refused-by s)
 
 -- ---- a recording that passes
 
 record Whole (p : ℕ) (s : List ℕ) (n : ℕ) : Type 0 where
   pub pieces : List Piece
   pub salvages : Salvages p s pieces
-  pub text : keptText pieces ≡ s
-  pub count : keptCount pieces ≡ n
-  pub stretches : (hs : List Stretch) → stretchesFrom hs pieces ≡ hs
+  pub text : kept_text pieces ≡ s
+  pub count : kept_count pieces ≡ n
+  pub stretches : (hs : List Stretch) → stretches_from hs pieces ≡ hs
 
 whole-none : (p : ℕ) → Whole p [] 0
-unfolding keptText keptCount stretchesFrom
+unfolding kept_text kept_count stretches_from
 whole-none p = record { pieces = []; salvages = end; text = refl; count = refl; stretches = λ hs. refl }
 
 whole-next : (p : ℕ) (s : List ℕ) (m : Message) (k n : ℕ) → message p s ≡ good (m, k) → Whole (p + k) (drop k s) n → Whole p s (suc n)
-unfolding keptText keptCount stretchesFrom
+unfolding kept_text kept_count stretches_from
 whole-next p s m k n e w =
     let (a, b) = message-inside p s m k e in
     let l : length (take k s) ≡ k = length-take-le k s b in
     let d : take k s ++ drop k s ≡ s = take-append-drop k s in
     let g : message p (take k s ++ drop k s) ≡ good (m, length (take k s)) = rw (d, l) e in
     record {
-      pieces = keptPiece p (take k s) ∷ w.pieces;
-      salvages = subst (λ (z : List ℕ). Salvages p z (keptPiece p (take k s) ∷ w.pieces)) d (keep m g (rw l w.salvages));
+      pieces = kept_piece p (take k s) ∷ w.pieces;
+      salvages = subst (λ (z : List ℕ). Salvages p z (kept_piece p (take k s) ∷ w.pieces)) d (keep m g (rw l w.salvages));
       text = rw w.text d;
       count = ap suc w.count;
       stretches = w.stretches;
@@ -133,7 +133,7 @@ whole-at : (p x : ℕ) (s : List ℕ) (ms : List Message) → ((q : ℕ) (u : Li
 whole-at p x s ms rec e = go (reading p (x ∷ s))
   where
     go : Reading p (x ∷ s) → Whole p (x ∷ s) (length ms)
-    go (fails k q f) = absurd (good≢bad (sym (items-stop message p (x ∷ s) (omega arith) f) ∙ e))
+    go (fails k q f) = absurd (good≢bad (sym (items_stop message p (x ∷ s) (omega arith) f) ∙ e))
     go (reads m k f) =
         let (a, b) = message-inside p (x ∷ s) m k f in
         let (l, g, h) = fronted m (items message 0 (p + k) (drop k (x ∷ s))) (sym (items-next message p (x ∷ s) m k (omega arith) (omega arith) f) ∙ e) in
@@ -142,13 +142,13 @@ whole-at p x s ms rec e = go (reading p (x ∷ s))
 whole-within : (n p : ℕ) (s : List ℕ) (ms : List Message) → length s < n → items message 0 p s ≡ good ms → Whole p s (length ms)
 unfolding items
 whole-within zero p s ms h e = absurd (omega arith)
-whole-within (suc n) p [] ms h e = rw (← good-inj e) (whole-none p)
+whole-within (suc n) p [] ms h e = rw (← good_inj e) (whole-none p)
 whole-within (suc n) p (x ∷ s) ms h e = whole-at p x s ms (λ q u ls l f. whole-within n q u ls (omega arith) f) e
 
-kept_whole : (s : List ℕ) (n : ℕ) → length s ≤ mostBytes → Whole 0 s n → salvaged s ≡ good (record { text = s; messages = n; stretches = [] })
+kept_whole : (s : List ℕ) (n : ℕ) → length s ≤ most_bytes → Whole 0 s n → salvaged s ≡ good (record { text = s; messages = n; stretches = [] })
 kept_whole s n l w =
-    of-pieces s w.pieces l w.salvages (rw (w.stretches []) (omega arith))
-    ∙ ap good (same-salvage (record { text = s; messages = n; stretches = [] }) _ _ _ (sym w.text) (sym w.count) (sym (w.stretches [])))
+    of_pieces_lem s w.pieces l w.salvages (rw (w.stretches []) (omega arith))
+    ∙ ap good (same_salvage (record { text = s; messages = n; stretches = [] }) _ _ _ (sym w.text) (sym w.count) (sym (w.stretches [])))
 
 pub passing_kept : PassingKept
 unfolding recording
@@ -168,32 +168,32 @@ passing-next p q c t u m n e r =
     let (a, b) = message-inside p (c ++ t) m (length c) e in
     record {
       messages = m ∷ r.messages;
-      read = items-next message q (c ++ u) m (length c) (omega (arith, length-append c u)) (omega arith) (message-moved p q c t u m e) ∙ front_of _ _ (rw drop-append_seam r.read);
+      read = items-next message q (c ++ u) m (length c) (omega (arith, length-append c u)) (omega arith) (message-moved p q c t u m e) ∙ front_of_lem _ _ (rw drop-append_seam r.read);
       many = ap suc r.many;
     }
 
-passing : {p : ℕ} {s : List ℕ} {qs : List Piece} (q : ℕ) → Salvages p s qs → Passing q (keptText qs) (keptCount qs)
-unfolding items keptText keptCount
+passing : {p : ℕ} {s : List ℕ} {qs : List Piece} (q : ℕ) → Salvages p s qs → Passing q (kept_text qs) (kept_count qs)
+unfolding items kept_text kept_count
 passing q end = record { messages = []; read = refl; many = refl }
-passing q (keep {p = p} {c = c} {t = t} {qs = qs} m e r) = passing-next p q c t (keptText qs) m (keptCount qs) e (passing (q + length c) r)
+passing q (keep {p = p} {c = c} {t = t} {qs = qs} m e r) = passing-next p q c t (kept_text qs) m (kept_count qs) e (passing (q + length c) r)
 passing q (skip h l never r) = passing q r
 
-shorter : {p : ℕ} {s : List ℕ} {qs : List Piece} → Salvages p s qs → length (keptText qs) ≤ length s
-unfolding keptText
+shorter : {p : ℕ} {s : List ℕ} {qs : List Piece} → Salvages p s qs → length (kept_text qs) ≤ length s
+unfolding kept_text
 shorter end = omega arith
-shorter (keep {c = c} {t = t} {qs = qs} m e r) = let i = shorter r in omega (arith, length-append c (keptText qs), length-append c t)
+shorter (keep {c = c} {t = t} {qs = qs} m e r) = let i = shorter r in omega (arith, length-append c (kept_text qs), length-append c t)
 shorter (skip {c = c} {t = t} h l never r) = let i = shorter r in omega (arith, length-append c t)
 
-passes : (t : List ℕ) (ms : List Message) → length t ≤ mostBytes → items message 0 0 t ≡ good ms → recording t ≡ good ms
+passes : (t : List ℕ) (ms : List Message) → length t ≤ most_bytes → items message 0 0 t ≡ good ms → recording t ≡ good ms
 unfolding recording
-passes t ms l e = pass _ _ _ _ (le-ltb mostBytes (length t) l) e
+passes t ms l e = pass _ _ _ _ (le-ltb most_bytes (length t) l) e
 
 pub output-passes : OutputPasses
 output-passes s x e =
-    let k = kept_of s x e in
+    let k = kept_of_lem s x e in
     let r = passing 0 k.salvages in
-    let l : length (keptText k.pieces) ≤ mostBytes = omega (arith, shorter k.salvages, k.small) in
-    (r.messages, ap recording k.text ∙ passes (keptText k.pieces) r.messages l r.read, r.many ∙ sym k.messages)
+    let l : length (kept_text k.pieces) ≤ most_bytes = omega (arith, shorter k.salvages, k.small) in
+    (r.messages, ap recording k.text ∙ passes (kept_text k.pieces) r.messages l r.read, r.many ∙ sym k.messages)
 
 pub salvaged-twice : SalvagedTwice
 salvaged-twice s x e =
@@ -202,10 +202,10 @@ salvaged-twice s x e =
 
 -- ---- the buffer
 
-careful-answered : (b : List ℕ) (o : Outcome Salvage) → Careful (answered b o).0.number (answered b o).0.bytes b (answered b o).1
+careful_answered : (b : List ℕ) (o : Outcome Salvage) → Careful (answered b o).0.number (answered b o).0.bytes b (answered b o).1
 unfolding answered
-careful-answered b (good x) = careful-sets b x.text
-careful-answered b (bad n p) = careful-none n b
+careful_answered b (good x) = careful_sets b x.text
+careful_answered b (bad n p) = careful_none n b
 
 reported-good : (b : List ℕ) (x : Salvage) → Reported x (answered b (good x)).0
 unfolding answered
@@ -238,8 +238,8 @@ writes = record {
   none = λ s b x e l. roomless s b x e l;
   refused = λ s b n p e. refused-answered b n p (stop _ _ e);
   nothing = λ s b h. nothing-answered b (salvaged s >>= room_for b) h;
-  kept = λ s b. careful-answered b (salvaged s >>= room_for b);
+  kept = λ s b. careful_answered b (salvaged s >>= room_for b);
 }
 
 pub worked : Worked
-worked = worked-out
+worked = worked_out

@@ -7,9 +7,9 @@ use borrow.Author.Tests.{le-ltb}
 use lib.ListN.{length}
 use Rattle.rules.specs.Outcome.{Outcome, good, bad}
 use Rattle.rules.specs.Packages.{cut}
-use Rattle.rules.specs.Reading.{MessageSpot, messageAt}
-use Rattle.rules.proofs.Outcomes.{pass, stepped, good-inj, refused-only}
-use Rattle.message.specs.Answers.{cutCount}
+use Rattle.rules.specs.Reading.{MessageSpot, message_at}
+use Rattle.rules.proofs.Outcomes.{pass, stepped, good_inj, refused-only}
+use Rattle.message.specs.Answers.{cut_count}
 use Rattle.message.specs.Runs.{cut_of}
 use Rattle.salvage.specs.declared.Ends.{Ends}
 use Rattle.salvage.specs.declared.Ends.TheVariants.{At, Nowhere}
@@ -19,40 +19,40 @@ use Rattle.salvage.proofs.Surveying.{KeptAt, kept_at, lost-at}
 
 -- packages that were counted
 module _ (q : List ℕ) (l : length q ≤ 65536) where
-  counting : cut_of q ≡ cutCount 0 q
+  counting : cut_of q ≡ cut_count 0 q
   unfolding cut_of
   counting = pass _ _ _ _ (le-ltb 65536 (length q) l) refl
 
   pub uncounted : {n i : ℕ} → bad n i ≡ cut_of q → cut 0 q ≡ bad n i
-  unfolding cutCount
+  unfolding cut_count
   uncounted e = refused-only _ _ (sym counting ∙ sym e)
 
   pub counted : {n : ℕ} → good n ≡ cut_of q → (cs : List (List ℕ)) × (cut 0 q ≡ good cs) × (length cs ≡ n)
-  unfolding cutCount
+  unfolding cut_count
   counted e =
       let (cs, g, f) = stepped _ _ (sym counting ∙ sym e) in
-      (cs, g, good-inj f)
+      (cs, g, good_inj f)
 
 -- what an answer says
-abbrev where-ends : Ends → ℕ
-where-ends (At n) = n
-where-ends Nowhere = 0
+abbrev where_ends : Ends → ℕ
+where_ends (At n) = n
+where_ends Nowhere = 0
 
 abbrev one_at : Ends → ℕ
 one_at (At n) = 1
 one_at Nowhere = 0
 
 module _ (s : List ℕ) (p : ℕ) where
-  pub kept-end : (x : ℕ) → p < length s → At x ≡ end_of (messageAt s p) → KeptAt s p x
-  kept-end x l e = go (messageAt s p) refl
+  pub kept-end : (x : ℕ) → p < length s → At x ≡ end_of (message_at s p) → KeptAt s p x
+  kept-end x l e = go (message_at s p) refl
     where
-      go : (o : Outcome MessageSpot) → messageAt s p ≡ o → KeptAt s p x
-      go (good d) f = subst (KeptAt s p) (sym (ap where-ends (e ∙ ap end_of f))) (kept_at s p d l (sym f))
+      go : (o : Outcome MessageSpot) → message_at s p ≡ o → KeptAt s p x
+      go (good d) f = subst (KeptAt s p) (sym (ap where_ends (e ∙ ap end_of f))) (kept_at s p d l (sym f))
       go (bad a b) f = let z : ◌≡◌ {A = ℕ} 1 0 = ap one_at (e ∙ ap end_of f) in absurd (omega arith)
 
-  pub lost-end : length s ≤ 65536 → Nowhere ≡ end_of (messageAt s p) → Lost s p
-  lost-end l e = go (messageAt s p) refl
+  pub lost-end : length s ≤ 65536 → Nowhere ≡ end_of (message_at s p) → Lost s p
+  lost-end l e = go (message_at s p) refl
     where
-      go : (o : Outcome MessageSpot) → messageAt s p ≡ o → Lost s p
+      go : (o : Outcome MessageSpot) → message_at s p ≡ o → Lost s p
       go (good d) f = let z : ◌≡◌ {A = ℕ} 0 1 = ap one_at (e ∙ ap end_of f) in absurd (omega arith)
       go (bad a b) f = lost-at s p l (sym f)

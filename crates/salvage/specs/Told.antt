@@ -12,15 +12,15 @@ use Rattle.salvage.specs.declared.Ends.{Ends}
 use Rattle.salvage.specs.declared.Ends.TheVariants.{At, Nowhere}
 
 -- a stretch of the code, and one that is all zero
-abbrev pub stretchIn : Stretch → rule.Stretch
-stretchIn h = record { start = h.start; size = h.size }
+abbrev pub stretch_in : Stretch → rule.Stretch
+stretch_in h = record { start = h.start; size = h.size }
 
-abbrev pub noStretch : Stretch
-noStretch = record { start = 0; size = 0 }
+abbrev pub no_stretch : Stretch
+no_stretch = record { start = 0; size = 0 }
 
 -- the stretch from one place to another
-abbrev pub stretchOf : ℕ → ℕ → Stretch
-stretchOf start end = record { start = start; size = end - start }
+abbrev pub stretch_of : ℕ → ℕ → Stretch
+stretch_of start end = record { start = start; size = end - start }
 
 -- where a message that passes ends
 abbrev pub end_of : Outcome MessageSpot → Ends
@@ -33,7 +33,7 @@ numbers (Done b m) hs n = record { number = 0; place = 0; bytes = b; messages = 
 numbers (Refused x) hs n = record { number = number_of x.why; place = x.place; bytes = 0; messages = 0; stretches = hs; count = n }
 
 abbrev pub report : Salvaged → rule.Answer
-report r = numbers r.answer (map stretchIn r.stretches) r.count
+report r = numbers r.answer (map stretch_in r.stretches) r.count
 
 -- with the buffer after it
 abbrev pub told : Salvaged → List ℕ → rule.Answer × List ℕ
@@ -44,15 +44,15 @@ abbrev pub surveyed : List ℕ → rule.Answer
 surveyed s = (rule.answered [] (rule.salvaged s)).0
 
 -- where skips end in s, which stands at place p and whose first k bytes are skipped: at its end, or at the first offset whose byte says version 1
-unfoldable pub skipsEnd : ℕ → ℕ → List ℕ → ℕ
-skipsEnd k p [] = p
-skipsEnd (suc k) p (x ∷ s) = skipsEnd k (suc p) s
-skipsEnd zero p (x ∷ s) = elim (eqb (x / 16) 1) [ true ↦ p | false ↦ skipsEnd 3 (suc p) s ]
+unfoldable pub skips_end : ℕ → ℕ → List ℕ → ℕ
+skips_end k p [] = p
+skips_end (suc k) p (x ∷ s) = skips_end k (suc p) s
+skips_end zero p (x ∷ s) = elim (eqb (x / 16) 1) [ true ↦ p | false ↦ skips_end 3 (suc p) s ]
 
 -- the stretch that a skip at place p belongs to, and where it begins, behind `count` stretches of which the last runs from `last` to `end`
-unfoldable pub slotOf : ℕ → ℕ → ℕ → ℕ
-slotOf zero end p = 0
-slotOf (suc count) end p = elim (eqb end p) [ true ↦ count | false ↦ suc count ]
+unfoldable pub slot_of : ℕ → ℕ → ℕ → ℕ
+slot_of zero end p = 0
+slot_of (suc count) end p = elim (eqb end p) [ true ↦ count | false ↦ suc count ]
 
 unfoldable pub start_of : ℕ → ℕ → ℕ → ℕ → ℕ
 start_of zero last end p = p
@@ -60,7 +60,7 @@ start_of (suc count) last end p = elim (eqb end p) [ true ↦ last | false ↦ p
 
 -- the first n stretches of an array
 abbrev pub reported : List Stretch → ℕ → List rule.Stretch
-reported stretches n = take n (map stretchIn stretches)
+reported stretches n = take n (map stretch_in stretches)
 
 -- stretches from place p on, in order, up to place e
 pub data Fit : ℕ → ℕ → List rule.Stretch → Type 0 where

@@ -2,7 +2,7 @@
 use Rattle.std.specs.Prelude.{ℕ, ◌≡◌, List, [], ◌∷◌, ◌++◌, length, take, replicate}
 use Rattle.rules.specs.Outcome.{good, LARGE, ROOM}
 use Rattle.rules.specs.Bytes.{join}
-use Rattle.rules.specs.Table.{words, messageWith, M, optionsWith}
+use Rattle.rules.specs.Table.{words, message_with, M, options_with}
 use Rattle.rules.specs.Edges.{Gives, told}
 use Rattle.refusal.specs.Numbers.{HOLES}
 use Rattle.salvage.specs.Salvage.{Stretch, Salvage, salvaged, Answer, salvage}
@@ -13,7 +13,7 @@ empty = words (0x10000000 ∷ 0x00000007 ∷ 0x00000005 ∷ 0x00000018 ∷ 0x000
 
 -- M with a version that is not 1
 abbrev pub other : List ℕ
-other = messageWith 0x20000080 0x38 0 0x000D0000
+other = message_with 0x20000080 0x38 0 0x000D0000
 
 -- 4 bytes that are no message, and an empty message behind them, so many times
 abbrev pub holes : ℕ → List ℕ
@@ -40,7 +40,7 @@ pub record Worked : Type 0 where
   -- fewer than 4 bytes; a message without its last byte; a message 2 bytes too late, which is lost; a message that says one package and has two
   pub lost : Gives salvaged (
       (0x10 ∷ [], good (keeps [] 0 (stretch 0 1 ∷ []))) ∷ (take 55 M, good (keeps [] 0 (stretch 0 55 ∷ []))) ∷ (0x10 ∷ 0x00 ∷ M, good (keeps [] 0 (stretch 0 58 ∷ [])))
-      ∷ (optionsWith 0x87060000, good (keeps [] 0 (stretch 0 64 ∷ []))) ∷ [])
+      ∷ (options_with 0x87060000, good (keeps [] 0 (stretch 0 64 ∷ []))) ∷ [])
   -- messages inside a damaged one: it is skipped 4 bytes at a time, and not by its length
   pub inside : salvaged (words (0x20000080 ∷ 0x00000007 ∷ 0x00000005 ∷ 0x00000048 ∷ 0x00000064 ∷ 0x00000000 ∷ []) ++ empty ++ empty) ≡ good (keeps (empty ++ empty) 2 (stretch 0 24 ∷ []))
   -- 64 stretches; a 65th before a message, and one that is the last byte

@@ -5,8 +5,8 @@ ghost use Rattle.std.proofs.lemmas.List.Edits.{sets};
 ghost use Rattle.rules.specs.Outcome.{bad};
 ghost use Rattle.refusal.specs.Numbers.{number_of};
 ghost use Rattle.salvage.specs.Salvage as rule;
-ghost use Rattle.rules.specs.Reading.{messageAt};
-ghost use Rattle.salvage.specs.Told.{noStretch, stretchOf, end_of, report, told, surveyed, skipsEnd, slotOf, start_of, reported, Fit};
+ghost use Rattle.rules.specs.Reading.{message_at};
+ghost use Rattle.salvage.specs.Told.{no_stretch, stretch_of, end_of, report, told, surveyed, skips_end, slot_of, start_of, reported, Fit};
 ghost use Rattle.salvage.specs.Claims.{without};
 
 use message::{Count, count_packages, front_run, header_in, miscounts};
@@ -36,7 +36,7 @@ pub struct Salvaged {
 
 // A stretch of no bytes, which stands behind the last.
 fn no_stretch() -> Stretch
-    ensures { result ≡ noStretch }
+    ensures { result ≡ no_stretch }
 {
     Stretch { start: 0, size: 0 }
 }
@@ -44,7 +44,7 @@ fn no_stretch() -> Stretch
 // The stretch from one place to another.
 fn stretch_of(start: usize, end: usize) -> Stretch
     requires { start ≤ end }
-    ensures { result ≡ stretchOf start end }
+    ensures { result ≡ stretch_of start end }
 {
     Stretch {
         start,
@@ -73,7 +73,7 @@ fn skip_of(left: usize) -> usize
 // Where the skips that begin at place `at` end. No message begins with a byte that does not say version 1, so that none is looked for at such an offset.
 fn skips_end(s: &[u8], at: usize) -> usize
     requires { at < length s.now }
-    ensures { result ≡ skipsEnd 4 at (drop at s.now) }
+    ensures { result ≡ skips_end 4 at (drop at s.now) }
 {
     let mut end = at + skip_of(s.len() - at);
     while end < s.len() {
@@ -88,7 +88,7 @@ fn skips_end(s: &[u8], at: usize) -> usize
 // Which stretch a skip at place `at` belongs to: the last of `count`, if that ends there, or one more.
 fn slot_of(count: usize, end: usize, at: usize) -> usize
     requires { count ≤ 64 }
-    ensures { result ≡ slotOf count end at }
+    ensures { result ≡ slot_of count end at }
 {
     if count == 0 {
         return 0;
@@ -115,7 +115,7 @@ enum Ends {
 
 // The same for the message at place `at`. Why one is refused is not asked, so that all stays in registers in the loop over the offsets.
 fn end_at(s: &[u8], at: usize) -> Ends
-    ensures { result ≡ end_of (messageAt s.now at) }
+    ensures { result ≡ end_of (message_at s.now at) }
 {
     let Count::Number(run) = front_run(s, at) else {
         return Ends::Nowhere;

@@ -12,25 +12,25 @@ use Rattle.sheet.specs.declared.SheetRead.{SheetRead}
 use Rattle.sheet.specs.Rows.{row_in}
 
 -- a row read at place p
-abbrev pub toldRow : ℕ → RowRead → Outcome (rules.Row × ℕ)
-toldRow p (Read.Good r) = good (row_in r, 32)
-toldRow p Read.Bad = bad ROW p
+abbrev pub told_row : ℕ → RowRead → Outcome (rules.Row × ℕ)
+told_row p (Read.Good r) = good (row_in r, 32)
+told_row p Read.Bad = bad ROW p
 
 -- wherever s stands, it has this row at its start
 pub record ReadsRow (s : List ℕ) (r : RowRead) : Type 0 where
-  pub reads : (p : ℕ) → toldRow p r ≡ rules.row p s
+  pub reads : (p : ℕ) → told_row p r ≡ rules.row p s
 
 -- a sheet of so many bytes does not have whole rows, or has too many
-abbrev pub wrongSize : ℕ → Bool
-wrongSize n = ltb (rules.mostRows * rules.rowBytes) n || not (eqb (n % rules.rowBytes) 0)
+abbrev pub wrong_size : ℕ → Bool
+wrong_size n = ltb (rules.most_rows * rules.row_bytes) n || not (eqb (n % rules.row_bytes) 0)
 
 -- the complete answer
 abbrev pub answer : Outcome (List rules.Row × ℕ) → Outcome (List rules.Row × ℕ) × (List rules.Row × ℕ)
-answer o = (o, rules.shownRows o)
+answer o = (o, rules.shown_rows o)
 
-abbrev pub outcomeOf : SheetAnswer → List rules.Row × ℕ → Outcome (List rules.Row × ℕ)
-outcomeOf Answer.Good x = good x
-outcomeOf (Answer.Refused f) x = refused f
+abbrev pub outcome_of : SheetAnswer → List rules.Row × ℕ → Outcome (List rules.Row × ℕ)
+outcome_of Answer.Good x = good x
+outcome_of (Answer.Refused f) x = refused f
 
 abbrev pub told : SheetRead → Outcome (List rules.Row × ℕ) × (List rules.Row × ℕ)
-told r = (outcomeOf r.answer (map row_in r.rows, r.count), (map row_in r.rows, r.count))
+told r = (outcome_of r.answer (map row_in r.rows, r.count), (map row_in r.rows, r.count))

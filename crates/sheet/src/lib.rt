@@ -4,13 +4,13 @@
 // something in a message are its near rows, and they alone are asked for its packages.
 ghost use Rattle.std.specs.Prelude.{◌≡◌, ◌+◌, ◌≤◌, ◌<◌, [], ◌∷◌, length, get_or, take};
 ghost use Rattle.std.proofs.lemmas.List.Edits.{sets};
-ghost use Rattle.rules.specs.Sheet.{rowFits, grants, sheet, sheetRows};
+ghost use Rattle.rules.specs.Sheet.{row_fits, grants, sheet, sheet_rows};
 ghost use Rattle.rules.specs.Packages.{instant};
-ghost use Rattle.rules.specs.Message.{isSimulated};
+ghost use Rattle.rules.specs.Message.{is_simulated};
 ghost use Rattle.rules.specs.Outcome.{bad, ROW};
-ghost use Rattle.sheet.specs.Rows.{row_in, row_at, no_row, someGrants};
-ghost use Rattle.sheet.specs.Reading.{ReadsRow, wrongSize, told, answer};
-ghost use Rattle.sheet.specs.Table.{table_of, laidOut, countOfRows, toldTable, Keeps, reaches, nearOf, within, nearGrants};
+ghost use Rattle.sheet.specs.Rows.{row_in, row_at, no_row, some_grants};
+ghost use Rattle.sheet.specs.Reading.{ReadsRow, wrong_size, told, answer};
+ghost use Rattle.sheet.specs.Table.{table_of, laid_out, count_of_rows, told_table, Keeps, reaches, near_of, within, near_grants};
 
 use message::{Header, Mdid, Pdid};
 use refusal::{Refusal, Why};
@@ -42,7 +42,7 @@ pub struct Source {
 
 // What a grant looks at of the message with header h.
 pub fn source_of(h: Header) -> Source
-    ensures { (result.mdid ≡ h.id) × (result.simulated ≡ isSimulated h.flags) }
+    ensures { (result.mdid ≡ h.id) × (result.simulated ≡ is_simulated h.flags) }
 {
     let mdid = h.id;
     Source {
@@ -85,7 +85,7 @@ fn row_at(s: &[u8]) -> Row
 
 // Whether a row keeps the rules.
 fn fits(row: Row) -> bool
-    ensures { result ≡ rowFits (row_in row) }
+    ensures { result ≡ row_fits (row_in row) }
 {
     if row.last_mdid.0 < row.first_mdid.0 {
         return false;
@@ -175,14 +175,14 @@ fn refuse(place: usize) -> SheetRead
 
 // Whether a size is not that of at most 32 whole rows.
 fn wrong_size(n: usize) -> bool
-    ensures { result ≡ wrongSize n }
+    ensures { result ≡ wrong_size n }
 {
     (1024 < n) | (n % 32 != 0)
 }
 
 // The rows of a sheet. Its size is looked at before any row.
 pub fn read_sheet(s: &[u8]) -> SheetRead
-    ensures { told result ≡ answer (sheetRows s.now) }
+    ensures { told result ≡ answer (sheet_rows s.now) }
 {
     if wrong_size(s.len()) {
         return refuse(s.len());
@@ -243,7 +243,7 @@ pub fn grants(row: Row, m: Source, p: Pdid, t: u64) -> bool
 
 // Whether some row of the sheet grants it.
 pub fn some_row_grants(rows: &[Row], m: Source, p: Pdid, t: u64) -> bool
-    ensures { result ≡ someGrants rows.now m.mdid.0 m.simulated p.0 t }
+    ensures { result ≡ some_grants rows.now m.mdid.0 m.simulated p.0 t }
 {
     let mut i: usize = 0;
     while i < rows.len() {
@@ -259,7 +259,7 @@ pub fn some_row_grants(rows: &[Row], m: Source, p: Pdid, t: u64) -> bool
 // The first n rows of an array by value are lent to the search.
 fn in_first(rows: [Row; 32], n: usize, m: Source, p: Pdid, t: u64) -> bool
     requires { n ≤ 32 }
-    ensures { result ≡ someGrants (take n rows) m.mdid.0 m.simulated p.0 t }
+    ensures { result ≡ some_grants (take n rows) m.mdid.0 m.simulated p.0 t }
 {
     some_row_grants(&rows[..n], m, p, t)
 }
@@ -267,14 +267,14 @@ fn in_first(rows: [Row; 32], n: usize, m: Source, p: Pdid, t: u64) -> bool
 // The same for a short sheet: whoever lends an array copies it first, and four rows are copied sooner than 32.
 fn in_few(rows: [Row; 4], n: usize, m: Source, p: Pdid, t: u64) -> bool
     requires { n ≤ 4 }
-    ensures { result ≡ someGrants (take n rows) m.mdid.0 m.simulated p.0 t }
+    ensures { result ≡ some_grants (take n rows) m.mdid.0 m.simulated p.0 t }
 {
     some_row_grants(&rows[..n], m, p, t)
 }
 
 // Whether one of the first n rows grants it: rows behind them grant nothing.
 pub fn in_sheet(rows: [Row; 32], n: usize, m: Source, p: Pdid, t: u64) -> bool
-    ensures { result ≡ someGrants (take n rows) m.mdid.0 m.simulated p.0 t }
+    ensures { result ≡ some_grants (take n rows) m.mdid.0 m.simulated p.0 t }
 {
     if n <= 4 {
         let few = [rows[0], rows[1], rows[2], rows[3]];
@@ -329,7 +329,7 @@ fn put_row(table: &mut [u64], at: usize, row: Row)
 // The numbers of all rows of a sheet that keeps the rules.
 fn put_rows(s: &[u8], table: &mut [u64])
     requires { Keeps s.now }
-    ensures { table.new ≡ laidOut (sheet s.now) table.old }
+    ensures { table.new ≡ laid_out (sheet s.now) table.old }
 {
     let mut i = 0;
     while 32 * i < s.len() {
@@ -348,7 +348,7 @@ pub enum TableAnswer {
 
 // A sheet that is refused.
 fn refuse_table(place: usize) -> TableAnswer
-    ensures { toldTable result ≡ bad ROW place }
+    ensures { told_table result ≡ bad ROW place }
 {
     TableAnswer::Refused(Refusal {
         why: Why::Row,
@@ -358,7 +358,7 @@ fn refuse_table(place: usize) -> TableAnswer
 
 // How many rows a sheet has, or why it is refused. Its size is looked at before any row.
 fn count_rows(s: &[u8]) -> TableAnswer
-    ensures { toldTable result ≡ countOfRows (sheet s.now) }
+    ensures { told_table result ≡ count_of_rows (sheet s.now) }
 {
     if wrong_size(s.len()) {
         return refuse_table(s.len());
@@ -380,7 +380,7 @@ fn count_rows(s: &[u8]) -> TableAnswer
 // Reads a sheet into a table and says how many rows it has. Every row is looked at before one is stored: a sheet that is refused leaves the
 // table as it was. They are read twice and not held, since 32 rows would take over a thousand bytes of the stack.
 pub fn read_table(s: &[u8], table: &mut [u64]) -> TableAnswer
-    ensures { (toldTable result ≡ countOfRows (sheet s.now)) × (table.new ≡ laidOut (sheet s.now) table.old) }
+    ensures { (told_table result ≡ count_of_rows (sheet s.now)) × (table.new ≡ laid_out (sheet s.now) table.old) }
 {
     let answer = count_rows(s);
     match answer {
@@ -425,7 +425,7 @@ fn put_near(near: &mut [u64], n: usize, table: &[u64], i: usize)
 
 // The near rows of a message, from place 0 of `near` on; says how many numbers they are.
 pub fn near_rows(table: &[u64], m: Source, near: &mut [u64]) -> usize
-    ensures { (result ≡ length (nearOf m.mdid.0 m.simulated table.now)) × (near.new ≡ sets near.old 0 (nearOf m.mdid.0 m.simulated table.now)) }
+    ensures { (result ≡ length (near_of m.mdid.0 m.simulated table.now)) × (near.new ≡ sets near.old 0 (near_of m.mdid.0 m.simulated table.now)) }
 {
     let mdid = m.mdid;
     let id = mdid.0 as u64;
@@ -450,7 +450,7 @@ fn within(p: u64, t: u64, first: u64, last: u64, start: u64, end: u64) -> bool
 
 // Whether one of a few near rows grants the package. Each is asked, also behind one that does.
 fn ask_near(near: &[u64], p: u64, t: u64) -> bool
-    ensures { result ≡ nearGrants p t near.now }
+    ensures { result ≡ near_grants p t near.now }
 {
     let mut granted = false;
     let mut i = 0;
@@ -465,7 +465,7 @@ fn ask_near(near: &[u64], p: u64, t: u64) -> bool
 // The same of many near rows, no further than the first that does. Few of them have the package in their range, so that the jumps over the
 // others are foreseen.
 fn search_near(near: &[u64], p: u64, t: u64) -> bool
-    ensures { result ≡ nearGrants p t near.now }
+    ensures { result ≡ near_grants p t near.now }
 {
     let mut i = 0;
     while 4 <= near.len() - i {
@@ -480,7 +480,7 @@ fn search_near(near: &[u64], p: u64, t: u64) -> bool
 // Whether some near row grants the package. One row, which is four numbers, needs no loop. To ask four rows costs less than one jump that is not
 // foreseen.
 pub fn near_grants(near: &[u64], p: Pdid, t: u64) -> bool
-    ensures { result ≡ nearGrants p.0 t near.now }
+    ensures { result ≡ near_grants p.0 t near.now }
 {
     let id = p.0 as u64;
     if near.len() == 4 {

@@ -9,10 +9,10 @@ use lib.ListN.{length, get_or, take, set, length-map, length-take}
 use lib.Seq.{sets, length-sets, length-take-le}
 use Rattle.rules.specs.Items.{All, all_nil, all_cons, count}
 use Rattle.rules.proofs.Kept.{take-sets}
-use Rattle.numbered.specs.Numbering.{Running, beside, State, runningIn, id_of, next_of, holding}
-use Rattle.numbered.specs.Quota.{badIds, badState}
+use Rattle.numbered.specs.Numbering.{Running, beside, State, running_in, id_of, next_of, holding}
+use Rattle.numbered.specs.Quota.{bad_ids, bad_state}
 use Rattle.numbered.proofs.Numbers.{Low}
-use Rattle.numbered.proofs.States.{beside-ids, beside-next, beside-length, beside-maps, sets_same, good-few}
+use Rattle.numbered.proofs.States.{beside-ids, beside-next, beside-length, beside_maps, sets_same, good-few}
 use Rattle.numbered.proofs.Twice.{once-twice}
 use Rattle.step.specs.Claims.{StateFits}
 
@@ -21,22 +21,22 @@ use Rattle.step.specs.Claims.{StateFits}
 abbrev Lows : List ℕ → Type 0
 Lows l = (k : ℕ) → get_or l k 0 < 2 ^ 32
 
-lows-take : (h : ℕ) (l : List ℕ) → Lows l → Lows (take h l)
-lows-take zero l w k = omega arith
-lows-take (suc h) [] w k = omega arith
-lows-take (suc h) (x ∷ l) w zero = w zero
-lows-take (suc h) (x ∷ l) w (suc k) = lows-take h l (λ i. w (suc i)) k
+lows_take : (h : ℕ) (l : List ℕ) → Lows l → Lows (take h l)
+lows_take zero l w k = omega arith
+lows_take (suc h) [] w k = omega arith
+lows_take (suc h) (x ∷ l) w zero = w zero
+lows_take (suc h) (x ∷ l) w (suc k) = lows_take h l (λ i. w (suc i)) k
 
-lows-set : (l : List ℕ) (i v : ℕ) → Lows l → v < 2 ^ 32 → Lows (set l i v)
-lows-set [] i v w h k = w k
-lows-set (x ∷ l) zero v w h zero = h
-lows-set (x ∷ l) zero v w h (suc k) = w (suc k)
-lows-set (x ∷ l) (suc i) v w h zero = w zero
-lows-set (x ∷ l) (suc i) v w h (suc k) = lows-set l i v (λ j. w (suc j)) h k
+lows_set : (l : List ℕ) (i v : ℕ) → Lows l → v < 2 ^ 32 → Lows (set l i v)
+lows_set [] i v w h k = w k
+lows_set (x ∷ l) zero v w h zero = h
+lows_set (x ∷ l) zero v w h (suc k) = w (suc k)
+lows_set (x ∷ l) (suc i) v w h zero = w zero
+lows_set (x ∷ l) (suc i) v w h (suc k) = lows_set l i v (λ j. w (suc j)) h k
 
-lows-sets : (l : List ℕ) (i : ℕ) {ns : List Running} → Lows l → All Low ns → Lows (sets l i (map next_of ns))
-lows-sets l i w all_nil = w
-lows-sets l i w (all_cons {a = n} {l = ns} h a) = lows-sets (set l i n.next) (suc i) (lows-set l i n.next w h) a
+lows_sets : (l : List ℕ) (i : ℕ) {ns : List Running} → Lows l → All Low ns → Lows (sets l i (map next_of ns))
+lows_sets l i w all_nil = w
+lows_sets l i w (all_cons {a = n} {l = ns} h a) = lows_sets (set l i n.next) (suc i) (lows_set l i n.next w h) a
 
 beside-low : (xs ns : List ℕ) → Lows ns → All Low (beside xs ns)
 unfolding beside
@@ -53,16 +53,16 @@ beside-few (x ∷ xs) [] = omega arith
 beside-few (x ∷ xs) (n ∷ ns) = omega (arith, beside-few xs ns)
 
 -- the ids of a state's running numbers
-pub running-ids : (state : State) → length state.ids ≡ length state.next → map id_of (runningIn state) ≡ take state.held state.ids
-running-ids state l = beside-ids (take state.held state.ids) (take state.held state.next) (omega (arith, l, length-take state.held state.ids, length-take state.held state.next))
+pub running_ids : (state : State) → length state.ids ≡ length state.next → map id_of (running_in state) ≡ take state.held state.ids
+running_ids state l = beside-ids (take state.held state.ids) (take state.held state.next) (omega (arith, l, length-take state.held state.ids, length-take state.held state.next))
 
-pub running-few : (state : State) → badState 64 state ≡ false → length (runningIn state) ≤ 64
-running-few state b =
+pub running_few : (state : State) → bad_state 64 state ≡ false → length (running_in state) ≤ 64
+running_few state b =
     omega (arith, beside-few (take state.held state.ids) (take state.held state.next), length-take state.held state.ids, good-few 64 state.ids state.held b)
 
 module _ (state : State) (fits : StateFits state) where
-  pub running-low : All Low (runningIn state)
-  running-low = beside-low (take state.held state.ids) (take state.held state.next) (lows-take state.held state.next fits.below)
+  pub running_low : All Low (running_in state)
+  running_low = beside-low (take state.held state.ids) (take state.held state.next) (lows_take state.held state.next fits.below)
 
   -- the numbers held, where they fit
   module _ (few : state.held ≤ 64) where
@@ -72,19 +72,19 @@ module _ (state : State) (fits : StateFits state) where
     next-long : length (take state.held state.next) ≡ state.held
     next-long = length-take-le state.held state.next (omega (arith, fits.next))
 
-    pub running-length : length (runningIn state) ≡ state.held
-    running-length = beside-length _ _ (ids-long ∙ sym next-long) ∙ ids-long
+    pub running_length : length (running_in state) ≡ state.held
+    running_length = beside-length _ _ (ids-long ∙ sym next-long) ∙ ids-long
 
     -- a state holds its own numbers
-    pub holding-same : holding state (runningIn state) ≡ state
+    pub holding_same : holding state (running_in state) ≡ state
     unfolding holding
-    holding-same =
+    holding_same =
         rw (
-          running-ids state (fits.ids ∙ sym fits.next),
+          running_ids state (fits.ids ∙ sym fits.next),
           beside-next (take state.held state.ids) (take state.held state.next) (ids-long ∙ sym next-long),
           sets_same state.held state.ids (omega (arith, fits.ids)),
           sets_same state.held state.next (omega (arith, fits.next)),
-          running-length,
+          running_length,
         )
 
   module _ (ns : List Running) (few : length ns ≤ 64) where
@@ -92,22 +92,22 @@ module _ (state : State) (fits : StateFits state) where
     ids-back = ap (λ (k : ℕ). take k (sets state.ids 0 (map id_of ns))) (sym (length-map ns id_of)) ∙ take-sets state.ids (map id_of ns) (omega (arith, length-map ns id_of, fits.ids))
 
     -- what is held comes back
-    pub running-holding : runningIn (holding state ns) ≡ ns
+    pub running_holding : running_in (holding state ns) ≡ ns
     unfolding holding
-    running-holding =
+    running_holding =
         let b : take (length ns) (sets state.next 0 (map next_of ns)) ≡ map next_of ns =
         ap (λ (k : ℕ). take k (sets state.next 0 (map next_of ns))) (sym (length-map ns next_of)) ∙ take-sets state.next (map next_of ns) (omega (arith, length-map ns next_of, fits.next)) in
-        ap₂ beside ids-back b ∙ beside-maps ns
+        ap₂ beside ids-back b ∙ beside_maps ns
 
     pub fits-holding : All Low ns → StateFits (holding state ns)
     unfolding holding
     fits-holding low = record {
       ids = length-sets state.ids 0 (map id_of ns) ∙ fits.ids;
       next = length-sets state.next 0 (map next_of ns) ∙ fits.next;
-      below = lows-sets state.next 0 fits.below low;
+      below = lows_sets state.next 0 fits.below low;
     }
 
     -- ids that stand once each can be held
-    pub good-holding : ((y : ℕ) → count y (map id_of ns) ≤ 1) → badState 64 (holding state ns) ≡ false
-    unfolding holding badIds
+    pub good-holding : ((y : ℕ) → count y (map id_of ns) ≤ 1) → bad_state 64 (holding state ns) ≡ false
+    unfolding holding bad_ids
     good-holding once = rw (le-ltb 64 (length ns) few, ids-back) (once-twice (map id_of ns) once)

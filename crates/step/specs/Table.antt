@@ -2,7 +2,7 @@
 use Rattle.std.specs.Prelude.{ℕ, zero, suc, ◌-◌, ◌^◌, ◌≡◌, List, [], ◌∷◌, ◌++◌, replicate}
 use Rattle.rules.specs.Outcome.{SHORT, COUNT, ROOM}
 use Rattle.refusal.specs.Numbers.{IDS}
-use Rattle.rules.specs.Table.{words, messageWith, optionsWith, M, R}
+use Rattle.rules.specs.Table.{words, message_with, options_with, M, R}
 use Rattle.numbered.specs.Numbering.{State}
 use Rattle.numbered.specs.Quota.{Report}
 use Rattle.step.specs.Step.{step}
@@ -24,14 +24,14 @@ abbrev pub full : State
 full = record { ids = up_from 100 64; next = replicate 64 0; held = 64 }
 
 -- M with flag bit 3, M with an option 0x87 that says 1 of its 2 packages, and R for acquired data alone
-abbrev pub simulatedM : List ℕ
-simulatedM = messageWith 0x10000088 0x38 0 0x000D0000
+abbrev pub simulated_m : List ℕ
+simulated_m = message_with 0x10000088 0x38 0 0x000D0000
 
-abbrev pub miscountedM : List ℕ
-miscountedM = optionsWith 0x87060000
+abbrev pub miscounted_m : List ℕ
+miscounted_m = options_with 0x87060000
 
-abbrev pub acquiredR : List ℕ
-acquiredR = words (0x00000007 ∷ 0x00000007 ∷ 0x00000001 ∷ 0x00000001 ∷ 0x00000064 ∷ 0x00000000 ∷ 0x00000194 ∷ 0x00000001 ∷ [])
+abbrev pub acquired_r : List ℕ
+acquired_r = words (0x00000007 ∷ 0x00000007 ∷ 0x00000001 ∷ 0x00000001 ∷ 0x00000064 ∷ 0x00000000 ∷ 0x00000194 ∷ 0x00000001 ∷ [])
 
 -- the copy of M under R with sequence number n
 abbrev pub copied : ℕ → List ℕ
@@ -46,11 +46,11 @@ pub record Table : Type 0 where
   pub both : step (M ++ M) R 9 fresh (replicate 80 0xEE) ≡ (record { number = 0; place = 0; handled = 2; consumed = 112; bytes = 80; messages = 2; packages = 2 }, seven 2, copied 0 ++ copied 1)
   pub quota : step (M ++ M) R 1 fresh (replicate 40 0xEE) ≡ (one, seven 1, copied 0)
   pub wraps : step M R 1 (seven (2 ^ 32 - 1)) (replicate 40 0xEE) ≡ (one, seven 0, copied (2 ^ 32 - 1))
-  pub junk-behind : step (M ++ 1 ∷ []) R 1 fresh (replicate 40 0xEE) ≡ (one, seven 1, copied 0)
+  pub junk_behind : step (M ++ 1 ∷ []) R 1 fresh (replicate 40 0xEE) ≡ (one, seven 1, copied 0)
   pub cut-within : step (M ++ 1 ∷ []) R 2 fresh (replicate 40 0xEE) ≡ (nothing SHORT 56, fresh, replicate 40 0xEE)
-  pub count-behind : step (M ++ miscountedM) R 1 fresh (replicate 40 0xEE) ≡ (one, seven 1, copied 0)
-  pub count-within : step (M ++ miscountedM) R 2 fresh (replicate 80 0xEE) ≡ (nothing COUNT 56, fresh, replicate 80 0xEE)
-  pub acquired : step (M ++ simulatedM ++ M) acquiredR 3 fresh (replicate 80 0xEE) ≡ (record { number = 0; place = 0; handled = 3; consumed = 168; bytes = 80; messages = 2; packages = 2 }, seven 2, copied 0 ++ copied 1)
+  pub count-behind : step (M ++ miscounted_m) R 1 fresh (replicate 40 0xEE) ≡ (one, seven 1, copied 0)
+  pub count-within : step (M ++ miscounted_m) R 2 fresh (replicate 80 0xEE) ≡ (nothing COUNT 56, fresh, replicate 80 0xEE)
+  pub acquired : step (M ++ simulated_m ++ M) acquired_r 3 fresh (replicate 80 0xEE) ≡ (record { number = 0; place = 0; handled = 3; consumed = 168; bytes = 80; messages = 2; packages = 2 }, seven 2, copied 0 ++ copied 1)
   pub nothing-asked : step (1 ∷ []) R 0 fresh [] ≡ (nothing 0 0, fresh, [])
   pub no_place : step (M ++ M) R 2 full [] ≡ (nothing IDS 0, full, [])
   pub none-granted : step M [] 1 full [] ≡ (record { number = 0; place = 0; handled = 1; consumed = 56; bytes = 0; messages = 0; packages = 0 }, full, [])

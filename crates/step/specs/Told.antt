@@ -7,13 +7,13 @@ use Rattle.step.specs.declared.State.{State}
 use Rattle.step.specs.declared.Stepped.{Stepped}
 
 -- a state as the rule has it
-abbrev pub stateIn : State → rule.State
-stateIn s = record { ids = s.ids; next = s.next; held = s.held }
+abbrev pub state_in : State → rule.State
+state_in s = record { ids = s.ids; next = s.next; held = s.held }
 
 -- the report, with the state and the buffer after it
 abbrev pub told : Stepped → List ℕ → Report × rule.State × List ℕ
-told r s = (report r.answer, stateIn r.state, s)
+told r s = (report r.answer, state_in r.state, s)
 
 -- without a buffer
-abbrev pub toldMeasured : Stepped → Report × rule.State
-toldMeasured r = (report r.answer, stateIn r.state)
+abbrev pub told_measured : Stepped → Report × rule.State
+told_measured r = (report r.answer, state_in r.state)

@@ -1,8 +1,8 @@
 // Long recordings by quota: a recording of any length, copied step by step, a quota of messages at a time, numbered on from a state. A step is
 // `numbered::copy` with the 64 ids that a state holds, and measured alone `numbered::measure`.
 ghost use Rattle.std.specs.Prelude.{◌≡◌};
-ghost use Rattle.step.specs.Step.{step, measuredStep};
-ghost use Rattle.step.specs.Told.{stateIn, told, toldMeasured};
+ghost use Rattle.step.specs.Step.{step, measured_step};
+ghost use Rattle.step.specs.Told.{state_in, told, told_measured};
 
 use numbered::{Answer, copy};
 
@@ -23,7 +23,7 @@ pub struct Stepped {
 
 // A step of a recording under a sheet: at most `quota` messages, numbered on from the state, into a buffer.
 pub fn step(input: &[u8], sheet: &[u8], quota: usize, state: State, out: &mut [u8]) -> Stepped
-    ensures { told result out.new ≡ step input.now sheet.now quota (stateIn state) out.old }
+    ensures { told result out.new ≡ step input.now sheet.now quota (state_in state) out.old }
 {
     let mut ids = state.ids;
     let mut next = state.next;
@@ -41,7 +41,7 @@ pub fn step(input: &[u8], sheet: &[u8], quota: usize, state: State, out: &mut [u
 
 // What a step reports where it has room, measured alone, and the ids that are then held: no number is counted, and those of the state stay as they were.
 pub fn measure(input: &[u8], sheet: &[u8], quota: usize, state: State) -> Stepped
-    ensures { toldMeasured result ≡ measuredStep input.now sheet.now quota (stateIn state) }
+    ensures { told_measured result ≡ measured_step input.now sheet.now quota (state_in state) }
 {
     let mut ids = state.ids;
     let next = state.next;

@@ -2,22 +2,22 @@
 // function over such a struct, so new, next and first are proved by hand. step_at, data_at and next_at, which have the work, take
 // a plain slice and a place, and are covered.
 ghost use Rattle.std.specs.Prelude.{◌≡◌};
-ghost use Rattle.rules.specs.Walk.{packageAt, dataAt, start_at, next_at};
-ghost use Rattle.message.specs.Answers.{toldPackage, PartOf};
+ghost use Rattle.rules.specs.Walk.{package_at, data_at, start_at, next_at};
+ghost use Rattle.message.specs.Answers.{told_package, PartOf};
 ghost use Rattle.walk.specs.Steps as spec;
 
 use message::PackageRead;
 
 // What stands at a place of a run.
 pub fn step_at(s: &[u8], at: usize) -> PackageRead
-    ensures { toldPackage result ≡ packageAt s.now at }
+    ensures { told_package result ≡ package_at s.now at }
 {
     message::package_at(s, at)
 }
 
 // The data of the package at a place, as part of the run; empty where there is none.
 pub fn data_at(s: &[u8], at: usize) -> &[u8]
-    ensures { (result.now ≡ dataAt s.now at) × PartOf s.entry (start_at s.now at) result }
+    ensures { (result.now ≡ data_at s.now at) × PartOf s.entry (start_at s.now at) result }
 {
     match message::package_at(s, at) {
         PackageRead::Package(k) => {
@@ -77,7 +77,7 @@ pub fn next<'a>(w: Walk<'a>) -> Shown<'a>
 
 // What the first step of a walk finds: its parameter is a plain slice, so the borrow checker covers whoever calls it.
 pub fn first(run: &[u8]) -> PackageRead
-    ensures { toldPackage result ≡ packageAt run.now 0 }
+    ensures { told_package result ≡ package_at run.now 0 }
 {
     let s = next(new(run));
     s.step

@@ -5,11 +5,11 @@ use Rattle.windows.proofs.Windows as laws
 use Rattle.windows.proofs.Lengths as lengths
 use Rattle.windows.proofs.Worked.{worked}
 
-pub hands-over : HandsOver
-hands-over = laws.hands-over
+pub hands_over : HandsOver
+hands_over = laws.hands_over
 
-pub refused-as-whole : RefusedAsWhole
-refused-as-whole = laws.refused-as-whole
+pub refused_as_whole : RefusedAsWhole
+refused_as_whole = laws.refused_as_whole
 
 pub large-exactly : LargeExactly
 large-exactly = record { only = laws.large-only; always = laws.large-always; longer = laws.large-longer }
@@ -17,11 +17,11 @@ large-exactly = record { only = laws.large-only; always = laws.large-always; lon
 pub whole-bytes : WholeBytes
 whole-bytes = lengths.whole-bytes
 
-pub windows-join : WindowsJoin
-windows-join whole parts w = laws.windows-join w
+pub windows_join : WindowsJoin
+windows_join whole parts w = laws.windows_join w
 
-pub windows-pass : WindowsPass
-windows-pass whole parts w = laws.windows-pass w
+pub windows_pass : WindowsPass
+windows_pass whole parts w = laws.windows_pass w
 
-pub worked-holds : Worked
-worked-holds = worked
+pub worked_holds : Worked
+worked_holds = worked

@@ -13,11 +13,11 @@ use Rattle.rules.specs.Outcome.{Outcome, good, bad, ◌∷>◌, SHORT, LENGTH, C
 use Rattle.rules.specs.Bytes.{word}
 use Rattle.rules.specs.Items.{items}
 use Rattle.rules.specs.Message.{head, Message, message}
-use Rattle.rules.proofs.Outcomes.{pass, halt, step, stop, stepped, fronted, good-inj}
+use Rattle.rules.proofs.Outcomes.{pass, halt, step, stop, stepped, fronted, good_inj}
 use Rattle.rules.proofs.Passed.{passes}
 use Rattle.rules.proofs.Alone.{head-append}
-use Rattle.rules.proofs.Loops.{Doing, doing-start, doing-next, doing_end, doing-bad}
-use Rattle.windows.specs.Window.{extent, endBy, wholeBytes}
+use Rattle.rules.proofs.Loops.{Doing, doing_start, doing_next, doing_end, doing_bad}
+use Rattle.windows.specs.Window.{extent, end_by, whole_bytes}
 use Rattle.windows.specs.Told.{Extends}
 
 -- ---- one message
@@ -26,23 +26,23 @@ module _ (s : List ℕ) where
   none-whole : ((p : ℕ) → (n : ℕ) × (extent p s ≡ bad n p)) → Extends s 0
   none-whole h = record { most = omega arith; none = λ z. h; some = λ z. absurd (z refl) }
 
-  pub extends-short : length s < 24 → Extends s 0
+  pub extends_short : length s < 24 → Extends s 0
   unfolding extent
-  extends-short l = none-whole (λ p. (SHORT, halt _ _ _ _ (lt-ltb (length s) 24 l)))
+  extends_short l = none-whole (λ p. (SHORT, halt _ _ _ _ (lt-ltb (length s) 24 l)))
 
   module _ (long : 24 ≤ length s) where
-    pub extends-low : word s 12 < 24 → Extends s 0
+    pub extends_low : word s 12 < 24 → Extends s 0
     unfolding extent head
-    extends-low l = none-whole (λ p. (LENGTH, pass _ _ _ _ (le-ltb (length s) 24 long) (halt _ _ _ _ (lt-ltb (word s 12) 24 l))))
+    extends_low l = none-whole (λ p. (LENGTH, pass _ _ _ _ (le-ltb (length s) 24 long) (halt _ _ _ _ (lt-ltb (word s 12) 24 l))))
 
     module _ (least : 24 ≤ word s 12) where
-      pub extends-cut : length s < word s 12 → Extends s 0
+      pub extends_cut : length s < word s 12 → Extends s 0
       unfolding extent head
-      extends-cut l = none-whole (λ p. (CUT, pass _ _ _ _ (le-ltb (length s) 24 long) (pass _ _ _ _ (le-ltb (word s 12) 24 least) (halt _ _ _ _ (lt-ltb (length s) (word s 12) l)))))
+      extends_cut l = none-whole (λ p. (CUT, pass _ _ _ _ (le-ltb (length s) 24 long) (pass _ _ _ _ (le-ltb (word s 12) 24 least) (halt _ _ _ _ (lt-ltb (length s) (word s 12) l)))))
 
-      pub extends-whole : word s 12 ≤ length s → Extends s (word s 12)
+      pub extends_whole : word s 12 ≤ length s → Extends s (word s 12)
       unfolding extent head
-      extends-whole l = record {
+      extends_whole l = record {
         most = l;
         none = λ z. absurd (omega arith);
         some = λ z p. pass _ _ _ _ (le-ltb (length s) 24 long) (pass _ _ _ _ (le-ltb (word s 12) 24 least) (pass _ _ _ _ (le-ltb (length s) (word s 12) l) refl));
@@ -56,13 +56,13 @@ pub record Lengths (window : List ℕ) (k : ℕ) : Type 0 where
   pub inside : k ≤ length window
 
 pub lengths-start : (window : List ℕ) → Lengths window 0
-lengths-start window = record { done = []; doing = doing-start extent window; inside = omega arith }
+lengths-start window = record { done = []; doing = doing_start extent window; inside = omega arith }
 
 module _ (window : List ℕ) (k : ℕ) (inv : Lengths window k) where
-  pub lengths-end : length window ≤ k → (k ≡ wholeBytes window) × (k ≤ length window)
-  unfolding wholeBytes endBy
+  pub lengths-end : length window ≤ k → (k ≡ whole_bytes window) × (k ≤ length window)
+  unfolding whole_bytes end_by
   lengths-end l = (
-    omega (arith, inv.inside, ap (endBy (length window)) (doing_end extent window inv.done k inv.doing l)),
+    omega (arith, inv.inside, ap (end_by (length window)) (doing_end extent window inv.done k inv.doing l)),
     inv.inside,
   )
 
@@ -70,28 +70,28 @@ module _ (window : List ℕ) (k : ℕ) (inv : Lengths window k) where
     here : Extends (drop k window) r
     here = subst (λ (s : List ℕ). Extends s r) (take_all (length window - k) (drop k window) (omega (arith, length-drop k window))) e
 
-    pub lengths-stop : r ≡ 0 → (k ≡ wholeBytes window) × (k ≤ length window)
-    unfolding wholeBytes endBy
-    lengths-stop z =
+    pub lengths_stop : r ≡ 0 → (k ≡ whole_bytes window) × (k ≤ length window)
+    unfolding whole_bytes end_by
+    lengths_stop z =
         let (n, b) = here.none z k in
-        (sym (ap (endBy (length window)) (doing-bad extent window inv.done k inv.doing l b)), inv.inside)
+        (sym (ap (end_by (length window)) (doing_bad extent window inv.done k inv.doing l b)), inv.inside)
 
     pub lengths-next : (r ≡ 0 → ⊥) → Lengths window (k + r)
     lengths-next h = record {
       done = inv.done ++ (tt ∷ []);
-      doing = doing-next extent window inv.done k tt r inv.doing l (omega arith) (here.some h k);
+      doing = doing_next extent window inv.done k tt r inv.doing l (omega arith) (here.some h k);
       inside = omega (arith, here.most, length-drop k window);
     }
 
 -- ---- messages that pass
 
 -- the length of one that passes is its own, whatever follows
-extent-of : (p : ℕ) (s t : List ℕ) (m : Message) (n : ℕ) → message p s ≡ good (m, n) → (extent p (s ++ t) ≡ good (tt, n)) × (1 ≤ n) × (n ≤ length s)
+extent_of : (p : ℕ) (s t : List ℕ) (m : Message) (n : ℕ) → message p s ≡ good (m, n) → (extent p (s ++ t) ≡ good (tt, n)) × (1 ≤ n) × (n ≤ length s)
 unfolding message extent
-extent-of p s t m n e =
+extent_of p s t m n e =
     let (r, q, z) = stepped _ _ e in
     let w = passes p s (head s) r q in
-    let size : (head s).size ≡ n = ap (λ (k : Message × ℕ). k.1) (good-inj z) in
+    let size : (head s).size ≡ n = ap (λ (k : Message × ℕ). k.1) (good_inj z) in
     let h = head-append s t w.header.long in
     let same : (head (s ++ t)).size ≡ n = ap (λ (x : _). x.size) h ∙ size in (
       rw same (pass _ _ _ _ (le-ltb (length (s ++ t)) 24 (omega (arith, length-append s t, w.header.long)))
@@ -103,38 +103,38 @@ extent-of p s t m n e =
 -- bytes that are no whole message
 cut-here : (p : ℕ) (s : List ℕ) → length s < (head s).size → (b : Bool) → ltb (length s) 24 ≡ b → (n : ℕ) × (extent p s ≡ bad n p)
 unfolding head
-cut-here p s l true e = (extends-short s (ltb-true (length s) 24 e)).none refl p
-cut-here p s l false e = (extends-cut s (ltb-false (length s) 24 e) (omega (arith, l, ltb-false (length s) 24 e)) l).none refl p
+cut-here p s l true e = (extends_short s (ltb-true (length s) 24 e)).none refl p
+cut-here p s l false e = (extends_cut s (ltb-false (length s) 24 e) (omega (arith, l, ltb-false (length s) 24 e)) l).none refl p
 
 begun : (p : ℕ) (s : List ℕ) → (length s < 24) ⊎ (length s < (head s).size) → (n : ℕ) × (extent p s ≡ bad n p)
-begun p s b = ⊎_elim (λ l. (extends-short s l).none refl p) (λ l. cut-here p s l (ltb (length s) 24) refl) b
+begun p s b = ⊎_elim (λ l. (extends_short s l).none refl p) (λ l. cut-here p s l (ltb (length s) 24) refl) b
 
-end-front : (size : ℕ) (o : Outcome (List (Unit {0}))) → endBy size (tt ∷> o) ≡ endBy size o
-unfolding endBy ◌∷>◌
+end-front : (size : ℕ) (o : Outcome (List (Unit {0}))) → end_by size (tt ∷> o) ≡ end_by size o
+unfolding end_by ◌∷>◌
 end-front size (good l) = refl
 end-front size (bad n p) = refl
 
 ends : (k p : ℕ) (a b : List ℕ) {ms : List Message} → k ≤ length a → items message k p a ≡ good ms → (length b < 24) ⊎ (length b < (head b).size)
-    → endBy (p + length (a ++ b)) (items extent k p (a ++ b)) ≡ p + length a
-unfolding items endBy
+    → end_by (p + length (a ++ b)) (items extent k p (a ++ b)) ≡ p + length a
+unfolding items end_by
 ends (suc k) p [] b h e c = absurd (omega arith)
 ends zero p [] [] h e c = refl
 ends zero p [] (y ∷ b) h e c =
     let (n, q) = begun p (y ∷ b) c in
-    ap (endBy (p + suc (length b))) (stop _ _ q) ∙ omega arith
+    ap (end_by (p + suc (length b))) (stop _ _ q) ∙ omega arith
 ends (suc k) p (x ∷ a) b h e c =
     let z : p + suc (length (a ++ b)) ≡ suc p + length (a ++ b) = omega arith in
-    ap (λ (j : ℕ). endBy j (items extent k (suc p) (a ++ b))) z ∙ ends k (suc p) a b (omega arith) e c ∙ omega arith
+    ap (λ (j : ℕ). end_by j (items extent k (suc p) (a ++ b))) z ∙ ends k (suc p) a b (omega arith) e c ∙ omega arith
 ends zero p (x ∷ a) b h e c =
     let (r, g, d) = stepped _ _ e in
     let (ms, i, m) = fronted _ _ d in
-    let (o, least, most) = extent-of p (x ∷ a) b r.0 r.1 g in
+    let (o, least, most) = extent_of p (x ∷ a) b r.0 r.1 g in
     let z : p + suc (length (a ++ b)) ≡ suc p + length (a ++ b) = omega arith in
-    ap (endBy (p + suc (length (a ++ b)))) (step _ _ o refl) ∙ end-front (p + suc (length (a ++ b))) (items extent (r.1 - 1) (suc p) (a ++ b))
-    ∙ ap (λ (k : ℕ). endBy k (items extent (r.1 - 1) (suc p) (a ++ b))) z ∙ ends (r.1 - 1) (suc p) a b (omega arith) i c ∙ omega arith
+    ap (end_by (p + suc (length (a ++ b)))) (step _ _ o refl) ∙ end-front (p + suc (length (a ++ b))) (items extent (r.1 - 1) (suc p) (a ++ b))
+    ∙ ap (λ (k : ℕ). end_by k (items extent (r.1 - 1) (suc p) (a ++ b))) z ∙ ends (r.1 - 1) (suc p) a b (omega arith) i c ∙ omega arith
 
-pub whole-bytes : (before behind : List ℕ) (ms : List Message) → items message zero zero before ≡ good ms → (length behind < 24) ⊎ (length behind < (head behind).size) → wholeBytes (before ++ behind) ≡ length before
-unfolding wholeBytes
+pub whole-bytes : (before behind : List ℕ) (ms : List Message) → items message zero zero before ≡ good ms → (length behind < 24) ⊎ (length behind < (head behind).size) → whole_bytes (before ++ behind) ≡ length before
+unfolding whole_bytes
 whole-bytes before behind ms e c =
     let z : 0 + length (before ++ behind) ≡ length (before ++ behind) = omega arith in
-    ap (λ (k : ℕ). endBy k (items extent 0 0 (before ++ behind))) (sym z) ∙ ends 0 0 before behind (omega arith) e c ∙ omega arith
+    ap (λ (k : ℕ). end_by k (items extent 0 0 (before ++ behind))) (sym z) ∙ ends 0 0 before behind (omega arith) e c ∙ omega arith

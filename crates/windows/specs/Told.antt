@@ -6,9 +6,9 @@ use Rattle.windows.specs.Window.{extent}
 use Rattle.windows.specs.declared.Handed.{Handed}
 use Rattle.windows.specs.declared.Handed.TheVariants as handed
 
-abbrev pub toldHanded : Handed → Outcome ℕ
-toldHanded (handed.Bytes n) = good n
-toldHanded (handed.Refused f) = refused f
+abbrev pub told_handed : Handed → Outcome ℕ
+told_handed (handed.Bytes n) = good n
+told_handed (handed.Refused f) = refused f
 
 -- r is how many bytes the message at the start of s has by its length alone, or 0 where it is not whole
 pub record Extends (s : List ℕ) (r : ℕ) : Type 0 where

@@ -2,8 +2,8 @@
 // of a message on; the message that its end cuts is kept back, and begins the next window.
 ghost use Rattle.std.specs.Prelude.{◌≡◌, ◌≤◌, length};
 ghost use Rattle.refusal.specs.Numbers.{number_of};
-ghost use Rattle.windows.specs.Window.{isCut, endingBefore, handedOver, wholeBytes};
-ghost use Rattle.windows.specs.Told.{toldHanded, Extends};
+ghost use Rattle.windows.specs.Window.{is_cut, ending_before, handed_over, whole_bytes};
+ghost use Rattle.windows.specs.Told.{told_handed, Extends};
 
 use message::{Checked, check};
 use refusal::{Refusal, Why, number_of};
@@ -17,7 +17,7 @@ pub enum Handed {
 
 // Whether a message was refused because its end is not there.
 fn is_cut(why: Why) -> bool
-    ensures { result ≡ isCut (number_of why) }
+    ensures { result ≡ is_cut (number_of why) }
 {
     let number = number_of(why);
     number == 1 || number == 5
@@ -25,7 +25,7 @@ fn is_cut(why: Why) -> bool
 
 // A window of so many bytes is handed over up to the message at this place, which its end cuts. One of 65,536 bytes must hold a whole message.
 fn ending_before(length: usize, place: usize) -> Handed
-    ensures { toldHanded result ≡ endingBefore length place }
+    ensures { told_handed result ≡ ending_before length place }
 {
     if 0 < place {
         return Handed::Bytes(place);
@@ -41,7 +41,7 @@ fn ending_before(length: usize, place: usize) -> Handed
 
 // What of a window is handed over, where the recording goes on behind it or does not.
 pub fn hand_over(window: &[u8], goes_on: bool) -> Handed
-    ensures { toldHanded result ≡ handedOver goes_on window.now }
+    ensures { told_handed result ≡ handed_over goes_on window.now }
 {
     match check(window) {
         Checked::Passed {
@@ -80,7 +80,7 @@ fn extent(s: &[u8]) -> usize
 
 // How many bytes of a window are whole messages by their lengths alone: nothing else of a message is looked at.
 pub fn whole_bytes(window: &[u8]) -> usize
-    ensures { (result ≡ wholeBytes window.now) × (result ≤ length window.now) }
+    ensures { (result ≡ whole_bytes window.now) × (result ≤ length window.now) }
 {
     let mut at = 0;
     while at < window.len() {

@@ -10,10 +10,10 @@ use borrow.Author.Rules.{rules}
 use borrow.Author.Tests.{not-true, not-false}
 use Rattle.rules.specs.Outcome.{good}
 use Rattle.rules.specs.Bytes.{Bytes}
-use Rattle.rules.specs.Burst.{marker, marked, blockSize, mostBlocks, blocksFit, randomized, opening}
-use Rattle.rules.proofs.Claims.{premises-met, burst-is}
+use Rattle.rules.specs.Burst.{marker, marked, block_size, most_blocks, blocks_fit, randomized, opening}
+use Rattle.rules.proofs.Claims.{premises_met, burst_is}
 use Rattle.burst.specs.declared.Opened.{Opened}
-use Rattle.burst.specs.Told.{toldOpened}
+use Rattle.burst.specs.Told.{told_opened}
 use Rattle.burst.proofs.Buffer.{behind}
 use Rattle.burst.proofs.Answers.{opener-large, opener-marker, opener-blocks, opener-done, room}
 use Rattle.burst.proofs.open_burst.Statement.{statement}
@@ -31,7 +31,7 @@ begins c =
 marker-in : (c : tie.Else2) → 8 ≤ length (S c.before.before)
 marker-in c = room (S c.before.before) (begins c)
 
-whole : (c : tie.Else3) → blocksFit (length (S c.before.before.before)) ≡ true
+whole : (c : tie.Else3) → blocks_fit (length (S c.before.before.before)) ≡ true
 whole c =
     let b = c.before.before.before.blocks-fit in
     sym b.ensures ∙ not-false b.result c.if3.false
@@ -51,7 +51,7 @@ same_length c = search rules
 returns : tie.Need-returns
 returns c =
     let s = S c.before.before in
-    ap (λ (a : Opened). toldOpened a s) c.refuse-with.ensures ∙ opener-large s c.before.if1.true
+    ap (λ (a : Opened). told_opened a s) c.refuse-with.ensures ∙ opener-large s c.before.if1.true
 
 refuse-with-requires-2 : tie.Need-refuse-with-requires-2
 refuse-with-requires-2 c κs = search rules
@@ -63,7 +63,7 @@ returns-2 : tie.Need-returns-2
 returns-2 c =
     let d = c.before.before.before in
     let m = d.before.is-marked in
-    ap (λ (a : Opened). toldOpened a (S d)) c.refuse-with2.ensures
+    ap (λ (a : Opened). told_opened a (S d)) c.refuse-with2.ensures
     ∙ opener-marker (S d) c.before.before.if1.false (sym m.ensures ∙ not-true m.result c.before.if2.true)
 
 refuse-with-requires-3 : tie.Need-refuse-with-requires-3
@@ -77,7 +77,7 @@ returns-3 c =
     let e = c.before.before in
     let d = e.before.before in
     let b = d.blocks-fit in
-    ap (λ (a : Opened). toldOpened a (S d)) c.refuse-with3.ensures
+    ap (λ (a : Opened). told_opened a (S d)) c.refuse-with3.ensures
     ∙ opener-blocks (S d) e.before.if1.false (begins e) (sym b.ensures ∙ not-true b.result c.before.if3.true)
 
 sub-randomize-all : tie.Need-overflow-sub-randomize-all
@@ -111,11 +111,11 @@ abbrev handed : tie.After-slice-known → List ℕ
 handed c = c.before.args.buf.now
 
 pub handed-bytes : (c : tie.After-slice-known) → Bytes (handed c)
-handed-bytes c = premises-met.bytes _ (λ k. omega (arith, c.slice-known.given k))
+handed-bytes c = premises_met.bytes _ (λ k. omega (arith, c.slice-known.given k))
 
 pub every_call : (c : tie.After-slice-known) (blocks : ℕ) (after : List ℕ) → (opening (handed c) ≡ good (blocks, after)) ↔ ((take (length marker) (handed c) ≡ marker)
-    × (1 ≤ blocks) × (blocks ≤ mostBlocks) × (length (handed c) ≡ length marker + blocks * blockSize) × (after ≡ marker ++ randomized 0 (drop (length marker) (handed c))))
-every_call c = burst-is (handed c) (handed-bytes c)
+    × (1 ≤ blocks) × (blocks ≤ most_blocks) × (length (handed c) ≡ length marker + blocks * block_size) × (after ≡ marker ++ randomized 0 (drop (length marker) (handed c))))
+every_call c = burst_is (handed c) (handed-bytes c)
 
 pub open-burst-spec : {M : Type 1} → statement M
 open-burst-spec =

@@ -2,7 +2,7 @@
 use mathlib.Core.Path.{sym}
 use native.Mathlib.Omega.{arith}
 use borrow.Author.Rules.{rules}
-use Rattle.burst.proofs.Buffer.{table-long, lent}
+use Rattle.burst.proofs.Buffer.{table_long, lent}
 use Rattle.burst.proofs.randomize_rest.Statement.{statement}
 use Rattle.burst.proofs.randomize_rest.Tie as tie
 
@@ -29,7 +29,7 @@ randomize-part-requires c κs =
 slice-aggregate-randomize-part-2 : tie.Need-slice-aggregate-randomize-part-2
 slice-aggregate-randomize-part-2 c =
     let f = c.before.before.before.before.before.before in
-    sym (table-long 255 f.args.table.now f.requires.1)
+    sym (table_long 255 f.args.table.now f.requires.1)
 
 randomize-part-requires-2 : tie.Need-randomize-part-requires-2
 randomize-part-requires-2 c κs =

@@ -2,7 +2,7 @@
 use mathlib.Core.Path.{refl}
 use native.Mathlib.Omega.{arith}
 use borrow.Author.Tests.{not-true, not-false}
-use Rattle.capture.proofs.Classing.{for-us-long, fitted, inside, other-port, not-whole, not-fitting, not-one, is_one}
+use Rattle.capture.proofs.Classing.{for_us-long, fitted, inside, other_port, not_whole, not_fitting, not_one, is_one}
 use borrow.Author.Rules.{rules}
 use Rattle.capture.proofs.class_of.Statement.{statement}
 use Rattle.capture.proofs.class_of.Tie as tie
@@ -11,16 +11,16 @@ for-us-requires : tie.Need-for-us-requires
 for-us-requires c κs = search rules
 
 returns : tie.Need-returns
-returns c = (other-port _ _ _ _ c.before.for-us.ensures (not-true _ c.if1.true), tt)
+returns c = (other_port _ _ _ _ c.before.for-us.ensures (not-true _ c.if1.true), tt)
 
 returns-2 : tie.Need-returns-2
-returns-2 c = (not-whole _ _ _ _ c.before.before.for-us.ensures (not-false _ c.before.if1.false) _ refl (search rules), tt)
+returns-2 c = (not_whole _ _ _ _ c.before.before.for-us.ensures (not-false _ c.before.if1.false) _ refl (search rules), tt)
 
 sub-ip : tie.Need-overflow-sub-ip
-sub-ip c = omega (arith, (for-us-long _ _ _ c.before.before.for-us.ensures (not-false _ c.before.if1.false)).0)
+sub-ip c = omega (arith, (for_us-long _ _ _ c.before.before.for-us.ensures (not-false _ c.before.if1.false)).0)
 
 part-ip-start : tie.Need-slice-bounds-ip-start
-part-ip-start c = omega (arith, (for-us-long _ _ _ c.before.before.for-us.ensures (not-false _ c.before.if1.false)).0)
+part-ip-start c = omega (arith, (for_us-long _ _ _ c.before.before.for-us.ensures (not-false _ c.before.if1.false)).0)
 
 part-ip-end : tie.Need-slice-bounds-ip-end
 part-ip-end c = search rules
@@ -29,7 +29,7 @@ lengths-fit-requires : tie.Need-lengths-fit-requires
 lengths-fit-requires c κs = search rules
 
 returns-3 : tie.Need-returns-3
-returns-3 c = (not-fitting _ _ _ _ c.before.before.before.before.before.for-us.ensures (not-false _ c.before.before.before.before.if1.false) _ refl (search rules) _ c.before.lengths-fit.ensures (not-true _ c.if3.true), tt)
+returns-3 c = (not_fitting _ _ _ _ c.before.before.before.before.before.for-us.ensures (not-false _ c.before.before.before.before.if1.false) _ refl (search rules) _ c.before.lengths-fit.ensures (not-true _ c.if3.true), tt)
 
 header-of-requires : tie.Need-header-of-requires
 header-of-requires c κs = search rules
@@ -73,7 +73,7 @@ returns-4 c =
     let h = u.before in
     let l = h.before.before in
     let o = l.before.before.before.before in
-    (not-one _ _ _ _ o.for-us.ensures (not-false _ l.before.before.before.if1.false) _ refl (search rules) _ l.lengths-fit.ensures (not-false _ h.before.if3.false) _ h.header_of.ensures.0 _ u.half_at.ensures _ c.before.one-message.ensures (not-true _ c.if4.true), tt)
+    (not_one _ _ _ _ o.for-us.ensures (not-false _ l.before.before.before.if1.false) _ refl (search rules) _ l.lengths-fit.ensures (not-false _ h.before.if3.false) _ h.header_of.ensures.0 _ u.half_at.ensures _ c.before.one-message.ensures (not-true _ c.if4.true), tt)
 
 add-t10 : tie.Need-overflow-add-t10
 add-t10 c = search rules
@@ -87,7 +87,7 @@ returns-5 c =
     let h = u.before in
     let l = h.before.before in
     let o = l.before.before.before.before in
-    let long = for-us-long _ _ _ o.for-us.ensures (not-false _ l.before.before.before.if1.false) in
+    let long = for_us-long _ _ _ o.for-us.ensures (not-false _ l.before.before.before.if1.false) in
     let fits = fitted _ _ l.lengths-fit.ensures (not-false _ h.before.if3.false) _ h.header_of.ensures.0 _ u.half_at.ensures in
     (is_one _ _ _ _ o.for-us.ensures (not-false _ l.before.before.before.if1.false) _ refl (search rules) _ l.lengths-fit.ensures (not-false _ h.before.if3.false) _ h.header_of.ensures.0 _ u.half_at.ensures _ c.before.one-message.ensures (not-false _ c.if4.false), inside o.before.before.args.frame.now _ _ long fits h.header_of.ensures.0 _ c.before.one-message.ensures (not-false _ c.if4.false))
 

@@ -4,9 +4,9 @@ use Prim.Native.Nat.{◌+◌, ◌-◌, ◌≤◌, ◌<◌}
 use mathlib.Core.Path.{◌≡◌, sym, ◌∙◌}
 use native.Mathlib.Omega.{arith}
 use lib.ListN.{length, take, drop, length-drop, length-take}
-use Rattle.capture.specs.Told.{order_by, slotOf}
+use Rattle.capture.specs.Told.{order_by, slot_of}
 use Rattle.capture.specs.declared.Slot.TheVariants.{Record}
-use Rattle.capture.proofs.Tallying.{Counting, Slotted, counting-start, low, counting-end, counting-cut, slot-here, counting-next}
+use Rattle.capture.proofs.Tallying.{Counting, Slotted, counting_start, low, counting_end, counting_cut, slot_here, counting_next}
 use Rattle.capture.proofs.count.Statement.{statement}
 use Rattle.capture.proofs.count.Tie as tie
 use Rattle.capture.proofs.count.Reads as reads
@@ -24,14 +24,14 @@ decreases-loop file big port spots₀ counts₀ at₀ spots counts at = length f
 abbrev Read : Type 0
 Read = lts.After-known-told (slot-of-reads.Asked, slot-of-reads.Learnt, with-packet-reads.Asked, with-packet-reads.Learnt) reads.Pre reads.Post invariant-loop decreases-loop
 
-slot_is : (c : Read) → Record c.before.size.given.0.0 c.before.size.given.0.1.0 ≡ slotOf (order_by c.before.before.before.before.before.before.before.before.args.big) (take (length c.before.before.before.before.before.before.before.before.args.file.now - c.before.before.before.before.before.before.loop.at) (drop c.before.before.before.before.before.before.loop.at c.before.before.before.before.before.before.before.before.args.file.now))
+slot_is : (c : Read) → Record c.before.size.given.0.0 c.before.size.given.0.1.0 ≡ slot_of (order_by c.before.before.before.before.before.before.before.before.args.big) (take (length c.before.before.before.before.before.before.before.before.args.file.now - c.before.before.before.before.before.before.loop.at) (drop c.before.before.before.before.before.before.loop.at c.before.before.before.before.before.before.before.before.args.file.now))
 slot_is c = sym c.before.size.given.1 ∙ c.before.before.before.slot_of.ensures
 
 before : (c : Read) → c.before.before.before.before.before.before.loop.at < length c.before.before.before.before.before.before.before.before.args.file.now
 before c = search rules
 
 slot : (c : Read) → Slotted (order_by c.before.before.before.before.before.before.before.before.args.big) (drop c.before.before.before.before.before.before.loop.at c.before.before.before.before.before.before.before.before.args.file.now) c.before.size.given.0.0 c.before.size.given.0.1.0
-slot c = slot-here (order_by c.before.before.before.before.before.before.before.before.args.big) c.before.before.before.before.before.before.before.before.args.file.now c.before.before.before.before.before.before.loop.invariant.1.done c.before.before.before.before.before.before.loop.at c.before.before.before.before.before.before.loop.invariant.1.walk (before c) _ _ (slot_is c)
+slot c = slot_here (order_by c.before.before.before.before.before.before.before.before.args.big) c.before.before.before.before.before.before.before.before.args.file.now c.before.before.before.before.before.before.loop.invariant.1.done c.before.before.before.before.before.before.loop.at c.before.before.before.before.before.before.loop.invariant.1.walk (before c) _ _ (slot_is c)
 
 -- it ends within the file
 within : (c : Read) → c.before.before.before.before.before.before.loop.at + c.before.size.given.0.0 ≤ length c.before.before.before.before.before.before.before.before.args.file.now
@@ -40,7 +40,7 @@ within c = omega (arith, (slot c).most, length-drop c.before.before.before.befor
 loop-holds : tie.Need-loop-init invariant-loop decreases-loop
 loop-holds c =
     let a = c.before.args in
-    (search rules, counting-start (order_by a.big) a.port a.file.now a.spots.now (search rules) (search rules))
+    (search rules, counting_start (order_by a.big) a.port a.file.now a.spots.now (search rules) (search rules))
 
 sub-slot-of : tie.Need-overflow-sub-slot-of invariant-loop decreases-loop
 sub-slot-of c = search rules
@@ -87,7 +87,7 @@ loop-again c =
     let d = c.before.before.before in
     let l = d.before.before.before.before.before.before.loop in
     let a = d.before.before.before.before.before.before.before.before.args in
-    (l.invariant.0, counting-next (order_by a.big) a.port a.file.now l.counts l.spots l.at l.invariant.1 (before d) _ _ (slot_is d) _ _ l.invariant.0 c.with-packet.ensures)
+    (l.invariant.0, counting_next (order_by a.big) a.port a.file.now l.counts l.spots l.at l.invariant.1 (before d) _ _ (slot_is d) _ _ l.invariant.0 c.with-packet.ensures)
 
 enum_told : tie.Need-enum-told invariant-loop decreases-loop
 enum_told c = search rules
@@ -96,13 +96,13 @@ returns : tie.Need-returns invariant-loop decreases-loop
 returns c =
     let l = c.before.before.before.before.before.loop in
     let a = c.before.before.before.before.before.before.before.args in
-    counting-cut (order_by a.big) a.port a.file.now l.counts l.spots l.at l.invariant.1 (search rules) (sym c.enum_told.given.1 ∙ c.before.before.slot_of.ensures)
+    counting_cut (order_by a.big) a.port a.file.now l.counts l.spots l.at l.invariant.1 (search rules) (sym c.enum_told.given.1 ∙ c.before.before.slot_of.ensures)
 
 returns-2 : tie.Need-returns-2 invariant-loop decreases-loop
 returns-2 c =
     let l = c.before.loop in
     let a = c.before.before.before.args in
-    counting-end (order_by a.big) a.port a.file.now l.counts l.spots l.at l.invariant.1 (search rules)
+    counting_end (order_by a.big) a.port a.file.now l.counts l.spots l.at l.invariant.1 (search rules)
 
 pub count_spec : {M : Type 1} → statement M
 count_spec =

@@ -1,5 +1,5 @@
 -- `capture::header_good` meets its contract: test by test.
-use Rattle.capture.proofs.Tests.{header-short, header-magic, header-major, header-minor, header-link}
+use Rattle.capture.proofs.Tests.{header-short, header-magic, header_major, header_minor, header_link}
 use borrow.Author.Rules.{rules}
 use Rattle.capture.proofs.header_good.Statement.{statement}
 use Rattle.capture.proofs.header_good.Tie as tie
@@ -17,19 +17,19 @@ half-in-requires : tie.Need-half-in-requires
 half-in-requires c κs = search rules
 
 returns-3 : tie.Need-returns-3
-returns-3 c = header-major _ _ (search rules) _ c.before.before.before.word_in.ensures (search rules) _ c.before.half_in.ensures (search rules)
+returns-3 c = header_major _ _ (search rules) _ c.before.before.before.word_in.ensures (search rules) _ c.before.half_in.ensures (search rules)
 
 half-in-requires-2 : tie.Need-half-in-requires-2
 half-in-requires-2 c κs = search rules
 
 returns-4 : tie.Need-returns-4
-returns-4 c = header-minor _ _ (search rules) _ c.before.before.before.before.before.word_in.ensures (search rules) _ c.before.before.before.half_in.ensures (search rules) _ c.before.half-in2.ensures (search rules)
+returns-4 c = header_minor _ _ (search rules) _ c.before.before.before.before.before.word_in.ensures (search rules) _ c.before.before.before.half_in.ensures (search rules) _ c.before.half-in2.ensures (search rules)
 
 word-in-requires-2 : tie.Need-word-in-requires-2
 word-in-requires-2 c κs = search rules
 
 returns-5 : tie.Need-returns-5
-returns-5 c = header-link _ _ (search rules) _ c.before.before.before.before.before.before.word_in.ensures (search rules) _ c.before.before.before.before.half_in.ensures (search rules) _ c.before.before.half-in2.ensures (search rules) _ c.word-in2.ensures
+returns-5 c = header_link _ _ (search rules) _ c.before.before.before.before.before.before.word_in.ensures (search rules) _ c.before.before.before.before.half_in.ensures (search rules) _ c.before.before.half-in2.ensures (search rules) _ c.word-in2.ensures
 
 pub header-good-spec : {M : Type 1} → statement M
 header-good-spec =

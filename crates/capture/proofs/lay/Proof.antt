@@ -3,7 +3,7 @@ use mathlib.Core.Path.{◌≡◌, ap, sym, subst, ◌∙◌}
 use mathlib.Core.List.{[]}
 use lib.ListN.{length}
 use lib.Seq.{length-sets}
-use Rattle.capture.specs.Writing.{fileOf}
+use Rattle.capture.specs.Writing.{file_of}
 use Rattle.capture.specs.Told.{Roomy}
 use Rattle.capture.proofs.Laying.{laid}
 use borrow.Author.Rules.{rules}
@@ -17,7 +17,7 @@ put-messages-requires : tie.Need-put-messages-requires
 put-messages-requires c κs =
     let a = c.before.before.before.before.before.before.before.args in
     let q : Roomy a.recording.now a.port (length a.out.now) = search rules in
-    let n : length c.before.before.before.put-file.new.0 ≡ length a.out.now = ap length c.before.before.before.put-file.ensures ∙ length-sets a.out.now 0 (fileOf []) in
+    let n : length c.before.before.before.put-file.new.0 ≡ length a.out.now = ap length c.before.before.before.put-file.ensures ∙ length-sets a.out.now 0 (file_of []) in
     (search rules, subst (Roomy a.recording.now a.port) (sym n) q)
 
 same_length : tie.Need-same-length

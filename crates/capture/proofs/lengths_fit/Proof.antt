@@ -1,5 +1,5 @@
 -- `capture::lengths_fit` meets its contract: test by test.
-use Rattle.capture.proofs.Tests.{total-low, total-high, size_low, size_fits}
+use Rattle.capture.proofs.Tests.{total-low, total_high, size_low, size_fits}
 use borrow.Author.Rules.{rules}
 use Rattle.capture.proofs.lengths_fit.Statement.{statement}
 use Rattle.capture.proofs.lengths_fit.Tie as tie
@@ -20,7 +20,7 @@ returns : tie.Need-returns
 returns c = total-low _ _ c.before.before.header_of.ensures.0 _ c.before.half_at.ensures (search rules)
 
 returns-2 : tie.Need-returns-2
-returns-2 c = total-high _ _ c.before.before.before.header_of.ensures.0 _ c.before.before.half_at.ensures (search rules) (search rules)
+returns-2 c = total_high _ _ c.before.before.before.header_of.ensures.0 _ c.before.before.half_at.ensures (search rules) (search rules)
 
 add-half-at : tie.Need-overflow-add-half-at
 add-half-at c = search rules

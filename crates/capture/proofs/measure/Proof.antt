@@ -1,7 +1,7 @@
 -- `capture::measure` meets its contract: a law for each `return`.
 use mathlib.Core.Path.{ap, sym, ◌∙◌}
 use mathlib.Core.Bool.{true, false}
-use Rattle.capture.specs.Told.{order_by, toldMeasured}
+use Rattle.capture.specs.Told.{order_by, told_measured}
 use Rattle.capture.proofs.Only.{header-long}
 use Rattle.capture.proofs.Measuring.{measured-large, measured-big, measured-little, measured-none}
 use borrow.Author.Rules.{rules}
@@ -12,7 +12,7 @@ refuse-requires : tie.Need-refuse-requires
 refuse-requires c κs = search rules
 
 returns : tie.Need-returns
-returns c = measured-large _ _ _ (search rules) _ (ap toldMeasured c.refuse.ensures)
+returns c = measured-large _ _ _ (search rules) _ (ap told_measured c.refuse.ensures)
 
 header-good-requires : tie.Need-header-good-requires
 header-good-requires c κs = search rules
@@ -36,7 +36,7 @@ refuse-requires-2 : tie.Need-refuse-requires-2
 refuse-requires-2 c κs = search rules
 
 returns-4 : tie.Need-returns-4
-returns-4 c = measured-none _ _ _ (search rules) _ c.before.before.before.before.header-good.ensures c.before.before.before.if2.false _ c.before.before.header-good2.ensures c.before.if3.false _ (ap toldMeasured c.refuse2.ensures)
+returns-4 c = measured-none _ _ _ (search rules) _ c.before.before.before.before.header-good.ensures c.before.before.before.if2.false _ c.before.before.header-good2.ensures c.before.if3.false _ (ap told_measured c.refuse2.ensures)
 
 pub measure-spec : {M : Type 1} → statement M
 measure-spec =

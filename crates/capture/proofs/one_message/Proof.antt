@@ -1,6 +1,6 @@
 -- `capture::one_message` meets its contract: a message that ends where the bytes end.
 use mathlib.Core.Path.{ap, sym, ◌∙◌}
-use Rattle.message.specs.Answers.{toldMessage}
+use Rattle.message.specs.Answers.{told_message}
 use Rattle.capture.proofs.Classing.{one-refused, one-read}
 use borrow.Author.Rules.{rules}
 use Rattle.capture.proofs.one_message.Statement.{statement}
@@ -16,10 +16,10 @@ enum-known-m : tie.Need-enum-known-m
 enum-known-m c = search rules
 
 returns : tie.Need-returns
-returns c = one-refused _ (search rules) c.enum_told.given.0.0 (ap toldMessage (sym c.enum_told.given.1) ∙ c.before.before.message-at.ensures)
+returns c = one-refused _ (search rules) c.enum_told.given.0.0 (ap told_message (sym c.enum_told.given.1) ∙ c.before.before.message-at.ensures)
 
 returns-2 : tie.Need-returns-2
-returns-2 c = one-read _ c.before.before.m.given.0.0 (ap toldMessage (sym c.before.before.m.given.1) ∙ c.before.before.before.before.message-at.ensures)
+returns-2 c = one-read _ c.before.before.m.given.0.0 (ap told_message (sym c.before.before.m.given.1) ∙ c.before.before.before.before.message-at.ensures)
 
 pub one-message-spec : {M : Type 1} → statement M
 one-message-spec =

@@ -73,7 +73,7 @@ returns c =
     let kind = version.before.before.before.before in
     let ethernet = kind.before.before.before.before in
     let a = ethernet.before.before.before.args in
-    ip-stored a.out.now _ _ _ _ _ _ _ _ a.to a.n _ _ refl sum.before.checksum-of.ensures ethernet.put-zeros.ensures kind.put-half.ensures version.put-half2.ensures total.put-half3.ensures free.put_word.ensures protocol.put-half4.ensures sum.put-half5.ensures addresses.put-zeros2.ensures
+    ip-stored a.out.now _ _ _ _ _ _ _ _ a.to a.n _ _ refl sum.before.checksum-of.ensures ethernet.put-zeros.ensures kind.put_half.ensures version.put-half2.ensures total.put-half3.ensures free.put_word.ensures protocol.put-half4.ensures sum.put-half5.ensures addresses.put-zeros2.ensures
 
 pub put-ip-spec : {M : Type 1} → statement M
 put-ip-spec =

@@ -3,7 +3,7 @@ use mathlib.Core.Path.{ap}
 use mathlib.Core.List.{List}
 use Prim.Native.Nat.{ℕ}
 use Rattle.rules.specs.Buffer.{Written}
-use Rattle.capture.proofs.Laying.{message-sent}
+use Rattle.capture.proofs.Laying.{message_sent}
 use borrow.Author.Rules.{rules}
 use Rattle.capture.proofs.put_message.Statement.{statement}
 use Rattle.capture.proofs.put_message.Tie as tie
@@ -38,7 +38,7 @@ same_length c = search rules
 returns : tie.Need-returns
 returns c =
     let a = c.before.before.before.before.before.before.before.before.before.before.before.before.args in
-    message-sent a.s.now a.m a.port a.out.now _ _ a.to _ (search rules) c.before.before.before.before.before.before.before.before.before.clean-size.ensures c.before.before.before.before.before.before.put_front.ensures (ap (λ (x : Written × List ℕ). x.1) c.before.before.clean.ensures)
+    message_sent a.s.now a.m a.port a.out.now _ _ a.to _ (search rules) c.before.before.before.before.before.before.before.before.before.clean-size.ensures c.before.before.before.before.before.before.put_front.ensures (ap (λ (x : Written × List ℕ). x.1) c.before.before.clean.ensures)
 
 pub put-message-spec : {M : Type 1} → statement M
 put-message-spec =

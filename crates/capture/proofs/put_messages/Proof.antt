@@ -7,10 +7,10 @@ use native.Mathlib.Omega.{arith}
 use lib.ListN.{length}
 use lib.Seq.{length-sets}
 use Rattle.message.specs.declared.Message.{Message}
-use Rattle.message.specs.Answers.{spotOfMessage, toldMessage}
+use Rattle.message.specs.Answers.{spot_of_message, told_message}
 use Rattle.capture.specs.Told.{Roomy}
 use Rattle.capture.proofs.Weighing.{Spotted, spotted, unread, refused-one}
-use Rattle.capture.proofs.Laying.{Laying, laying-start, laying-end, laying-bad, sendable, laying-next}
+use Rattle.capture.proofs.Laying.{Laying, laying_start, laying_end, laying_bad, sendable, laying_next}
 use Rattle.capture.proofs.put_messages.Statement.{statement}
 use Rattle.capture.proofs.put_messages.Tie as tie
 use Rattle.capture.proofs.put_messages.Reads as reads
@@ -34,8 +34,8 @@ S c = c.before.before.before.before.before.before.before.before.args.recording.n
 abbrev K : Read → Message
 K c = c.before.found.given.0.0
 
-spot : (c : Read) → Spotted (S c) c.before.before.before.before.before.loop.at (spotOfMessage (K c))
-spot c = spotted (S c) c.before.before.before.before.before.loop.at (spotOfMessage (K c)) (record { below = λ k. omega (arith, c.before.before.before.before.before.before.before.shared-slice-known.given k) }) (sym (ap toldMessage (sym c.before.found.given.1) ∙ c.before.before.before.message-at.ensures))
+spot : (c : Read) → Spotted (S c) c.before.before.before.before.before.loop.at (spot_of_message (K c))
+spot c = spotted (S c) c.before.before.before.before.before.loop.at (spot_of_message (K c)) (record { below = λ k. omega (arith, c.before.before.before.before.before.before.before.shared-slice-known.given k) }) (sym (ap told_message (sym c.before.found.given.1) ∙ c.before.before.before.message-at.ensures))
 
 before : (c : Read) → c.before.before.before.before.before.loop.at < length (S c)
 before c = search rules
@@ -44,7 +44,7 @@ loop-holds : tie.Need-loop-init invariant-loop decreases-loop
 loop-holds c =
     let a = c.before.before.args in
     let q : Roomy a.recording.now a.port (length a.out.now) = search rules in
-    (search rules, q, laying-start a.recording.now a.port a.out.now q)
+    (search rules, q, laying_start a.recording.now a.port a.out.now q)
 
 message-at-requires : tie.Need-message-at-requires invariant-loop decreases-loop
 message-at-requires c κs = search rules
@@ -62,8 +62,8 @@ returns : tie.Need-returns invariant-loop decreases-loop
 returns c =
     let l = c.before.before.before.before.loop in
     let a = c.before.before.before.before.before.before.before.args in
-    let e = unread a.recording.now l.at _ _ l.invariant.0 (ap toldMessage (sym c.enum_told.given.1) ∙ c.before.before.message-at.ensures) in
-    absurd (laying-bad a.recording.now a.port a.out.now l.invariant.1 l.out l.to l.at l.invariant.2 (search rules) _ _ (refused-one a.recording.now l.at a.port _ _ e))
+    let e = unread a.recording.now l.at _ _ l.invariant.0 (ap told_message (sym c.enum_told.given.1) ∙ c.before.before.message-at.ensures) in
+    absurd (laying_bad a.recording.now a.port a.out.now l.invariant.1 l.out l.to l.at l.invariant.2 (search rules) _ _ (refused-one a.recording.now l.at a.port _ _ e))
 
 sub-put-message : tie.Need-overflow-sub-put-message invariant-loop decreases-loop
 sub-put-message c = search rules
@@ -91,7 +91,7 @@ loop-again c =
     let d = c.before.before.before.before.before in
     let l = d.before.before.before.before.before.loop in
     let a = d.before.before.before.before.before.before.before.before.args in
-    (l.invariant.0, l.invariant.1, laying-next (S d) a.port a.out.now l.invariant.1 l.out l.to l.at l.invariant.2 (before d) (K d) (spot d) _ _ c.before.before.put-message.ensures)
+    (l.invariant.0, l.invariant.1, laying_next (S d) a.port a.out.now l.invariant.1 l.out l.to l.at l.invariant.2 (before d) (K d) (spot d) _ _ c.before.before.put-message.ensures)
 
 same-length-2 : tie.Need-same-length-2 invariant-loop decreases-loop
 same-length-2 c = ap length c.before.loop.invariant.2.stored ∙ simp length-sets
@@ -100,7 +100,7 @@ returns-2 : tie.Need-returns-2 invariant-loop decreases-loop
 returns-2 c =
     let l = c.before.loop in
     let a = c.before.before.before.before.args in
-    laying-end a.recording.now a.port a.out.now l.invariant.1 l.out l.to l.at l.invariant.2 (search rules)
+    laying_end a.recording.now a.port a.out.now l.invariant.1 l.out l.to l.at l.invariant.2 (search rules)
 
 pub put-messages-spec : {M : Type 1} → statement M
 put-messages-spec =

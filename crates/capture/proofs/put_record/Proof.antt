@@ -1,6 +1,6 @@
 -- `capture::put_record` meets its contract: the four stores are the record's header.
 use mathlib.Core.Path.{refl}
-use Rattle.capture.proofs.Fronts.{record-stored}
+use Rattle.capture.proofs.Fronts.{record_stored}
 use borrow.Author.Rules.{rules}
 use Rattle.capture.proofs.put_record.Statement.{statement}
 use Rattle.capture.proofs.put_record.Tie as tie
@@ -42,7 +42,7 @@ returns c =
     let m = e.before.before.before.before in
     let s = m.before.before.before.before in
     let a = s.before.before.before.args in
-    record-stored a.out.now _ _ _ _ a.to a.n a.seconds a.nanos _ refl s.put_word.ensures m.put-word2.ensures e.put-word3.ensures d.put-word4.ensures
+    record_stored a.out.now _ _ _ _ a.to a.n a.seconds a.nanos _ refl s.put_word.ensures m.put-word2.ensures e.put-word3.ensures d.put-word4.ensures
 
 pub put-record-spec : {M : Type 1} → statement M
 put-record-spec =

@@ -1,6 +1,6 @@
 -- `capture::put_udp` meets its contract: the four stores are the UDP header.
 use mathlib.Core.Path.{refl}
-use Rattle.capture.proofs.Fronts.{udp-stored}
+use Rattle.capture.proofs.Fronts.{udp_stored}
 use borrow.Author.Rules.{rules}
 use Rattle.capture.proofs.put_udp.Statement.{statement}
 use Rattle.capture.proofs.put_udp.Tie as tie
@@ -42,7 +42,7 @@ returns c =
     let p = l.before.before.before.before in
     let s = p.before.before.before.before in
     let a = s.before.before.before.args in
-    udp-stored a.out.now _ _ _ _ a.to a.n a.port _ refl s.put-half.ensures p.put-half2.ensures l.put-half3.ensures z.put-half4.ensures
+    udp_stored a.out.now _ _ _ _ a.to a.n a.port _ refl s.put_half.ensures p.put-half2.ensures l.put-half3.ensures z.put-half4.ensures
 
 pub put-udp-spec : {M : Type 1} → statement M
 put-udp-spec =

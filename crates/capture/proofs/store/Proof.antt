@@ -2,7 +2,7 @@
 use borrow.Author.Rules.{rules}
 use Prim.Native.Nat.{◌-◌, ◌≤◌, ◌<◌}
 use native.Mathlib.Omega.{arith}
-use Rattle.capture.proofs.Spotting.{Storing, storing-start, storing-end, storing-next}
+use Rattle.capture.proofs.Spotting.{Storing, storing_start, storing_end, storing_next}
 use Rattle.capture.proofs.store.Statement.{statement}
 use Rattle.capture.proofs.store.Tie as tie
 
@@ -13,7 +13,7 @@ abbrev decreases-loop : tie.decreases-loop
 decreases-loop file spots n out₀ to₀ i₀ out to i = n - i
 
 loop-holds : tie.Need-loop-init invariant-loop decreases-loop
-loop-holds c = let a = c.before.before.args in (search rules, storing-start a.file.now a.spots.now a.n a.out.now)
+loop-holds c = let a = c.before.before.args in (search rules, storing_start a.file.now a.spots.now a.n a.out.now)
 
 mul-put-noted : tie.Need-overflow-mul-put-noted invariant-loop decreases-loop
 mul-put-noted c = search rules
@@ -37,7 +37,7 @@ loop-again : tie.Need-loop-preserved invariant-loop decreases-loop
 loop-again c =
     let l = c.before.before.before.before.before.before.loop in
     let a = c.before.before.before.before.before.before.before.before.before.args in
-    (l.invariant.0, storing-next a.file.now a.spots.now a.n a.out.now l.out l.to l.i l.invariant.1 (search rules) _ _ c.before.before.put-noted.ensures)
+    (l.invariant.0, storing_next a.file.now a.spots.now a.n a.out.now l.out l.to l.i l.invariant.1 (search rules) _ _ c.before.before.put-noted.ensures)
 
 same_length : tie.Need-same-length invariant-loop decreases-loop
 same_length c = c.before.loop.invariant.1.same
@@ -46,7 +46,7 @@ returns : tie.Need-returns invariant-loop decreases-loop
 returns c =
     let l = c.before.loop in
     let a = c.before.before.before.before.args in
-    storing-end a.file.now a.spots.now a.n a.out.now l.out l.to l.i l.invariant.1 (search rules)
+    storing_end a.file.now a.spots.now a.n a.out.now l.out l.to l.i l.invariant.1 (search rules)
 
 pub store_spec : {M : Type 1} → statement M
 store_spec =

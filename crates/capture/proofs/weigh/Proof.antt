@@ -7,8 +7,8 @@ use native.Mathlib.Omega.{arith}
 use lib.ListN.{length}
 use Rattle.rules.specs.Writer.{write}
 use Rattle.rules.specs.Reading.{MessageSpot}
-use Rattle.message.specs.Answers.{spotOfMessage, toldMessage}
-use Rattle.capture.proofs.Weighing.{Spotted, spotted, unread, fits-none, refused-one, Weighing, weighing-start, weighing-end, weighing-bad, weighing-next}
+use Rattle.message.specs.Answers.{spot_of_message, told_message}
+use Rattle.capture.proofs.Weighing.{Spotted, spotted, unread, fits-none, refused-one, Weighing, weighing_start, weighing_end, weighing_bad, weighing_next}
 use Rattle.capture.proofs.weigh.Statement.{statement}
 use Rattle.capture.proofs.weigh.Tie as tie
 use Rattle.capture.proofs.weigh.Reads as reads
@@ -30,16 +30,16 @@ abbrev S : Read → List ℕ
 S c = c.before.before.before.before.before.before.before.args.recording.now
 
 abbrev K : Read → MessageSpot
-K c = spotOfMessage c.before.m.given.0.0
+K c = spot_of_message c.before.m.given.0.0
 
 spot : (c : Read) → Spotted (S c) c.before.before.before.before.before.loop.at (K c)
-spot c = spotted (S c) c.before.before.before.before.before.loop.at (K c) (record { below = λ k. omega (arith, c.before.before.before.before.before.before.shared-slice-known.given k) }) (sym (ap toldMessage (sym c.before.m.given.1) ∙ c.before.before.before.message-at.ensures))
+spot c = spotted (S c) c.before.before.before.before.before.loop.at (K c) (record { below = λ k. omega (arith, c.before.before.before.before.before.before.shared-slice-known.given k) }) (sym (ap told_message (sym c.before.m.given.1) ∙ c.before.before.before.message-at.ensures))
 
 before : (c : Read) → c.before.before.before.before.before.loop.at < length (S c)
 before c = search rules
 
 loop-holds : tie.Need-loop-init invariant-loop decreases-loop
-loop-holds c = (search rules, weighing-start c.before.args.recording.now)
+loop-holds c = (search rules, weighing_start c.before.args.recording.now)
 
 message-at-requires : tie.Need-message-at-requires invariant-loop decreases-loop
 message-at-requires c κs = search rules
@@ -59,7 +59,7 @@ returns c =
     let w = spot d in
     let n : length (write w.held) ≡ c.before.clean-size.result = w.size ∙ sym c.before.clean-size.ensures in
     let m : 65507 < c.before.clean-size.result = search rules in
-    record { right = λ port. weighing-bad (S d) l.bytes l.messages l.at l.invariant.1 (before d) port _ _ (fits-none (S d) l.at (K d) w port (omega (arith, n))) }
+    record { right = λ port. weighing_bad (S d) l.bytes l.messages l.at l.invariant.1 (before d) port _ _ (fits-none (S d) l.at (K d) w port (omega (arith, n))) }
 
 add-bytes : tie.Need-overflow-add-bytes invariant-loop decreases-loop
 add-bytes c =
@@ -89,7 +89,7 @@ loop-again c =
     let w = spot d in
     let n : length (write w.held) ≡ c.before.clean-size.result = w.size ∙ sym c.before.clean-size.ensures in
     let m : c.before.clean-size.result ≤ 65507 = search rules in
-    (l.invariant.0, subst (λ (x : ℕ). Weighing (S d) (l.bytes + (58 + x)) (l.messages + 1) (K d).next) n (weighing-next (S d) l.bytes l.messages l.at l.invariant.1 (before d) (K d) w (omega (arith, n))))
+    (l.invariant.0, subst (λ (x : ℕ). Weighing (S d) (l.bytes + (58 + x)) (l.messages + 1) (K d).next) n (weighing_next (S d) l.bytes l.messages l.at l.invariant.1 (before d) (K d) w (omega (arith, n))))
 
 enum-known-f : tie.Need-enum-known-f invariant-loop decreases-loop
 enum-known-f c = search rules
@@ -99,13 +99,13 @@ returns-2 c =
     let l = c.before.before.before.before.before.loop in
     let s = c.before.before.before.before.before.before.before.args.recording.now in
     let h : l.at < length s = search rules in
-    let e = unread s l.at _ _ l.invariant.0 (ap toldMessage (sym c.before.f.given.1) ∙ c.before.before.before.message-at.ensures) in
-    record { right = λ port. weighing-bad s l.bytes l.messages l.at l.invariant.1 h port _ _ (refused-one s l.at port _ _ e) }
+    let e = unread s l.at _ _ l.invariant.0 (ap told_message (sym c.before.f.given.1) ∙ c.before.before.before.message-at.ensures) in
+    record { right = λ port. weighing_bad s l.bytes l.messages l.at l.invariant.1 h port _ _ (refused-one s l.at port _ _ e) }
 
 returns-3 : tie.Need-returns-3 invariant-loop decreases-loop
 returns-3 c =
     let l = c.before.loop in
-    record { right = weighing-end c.before.before.before.args.recording.now l.bytes l.messages l.at l.invariant.1 (search rules) }
+    record { right = weighing_end c.before.before.before.args.recording.now l.bytes l.messages l.at l.invariant.1 (search rules) }
 
 pub weigh-spec : {M : Type 1} → statement M
 weigh-spec =

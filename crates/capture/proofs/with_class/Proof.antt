@@ -2,7 +2,7 @@
 use mathlib.Core.Path.{refl, subst}
 use native.Mathlib.Omega.{arith}
 use Rattle.capture.specs.Told.{Placed, Low}
-use Rattle.capture.proofs.Spotting.{kept-added, added-as}
+use Rattle.capture.proofs.Spotting.{kept_added, added_as}
 use borrow.Author.Rules.{rules}
 use Rattle.capture.proofs.with_class.Statement.{statement}
 use Rattle.capture.proofs.with_class.Tie as tie
@@ -45,16 +45,16 @@ add-t11 : tie.Need-overflow-add-t11
 add-t11 c = search rules
 
 returns : tie.Need-returns
-returns c = added-as _ _ _ _ c.before.before.before.class.given.1 (kept-added c.before.before.before.before.before.args.t _ _)
+returns c = added_as _ _ _ _ c.before.before.before.class.given.1 (kept_added c.before.before.before.before.before.args.t _ _)
 
 returns-2 : tie.Need-returns-2
-returns-2 c = added-as _ _ _ _ c.before.enum_told.given.1 (record { right = λ frame p. refl })
+returns-2 c = added_as _ _ _ _ c.before.enum_told.given.1 (record { right = λ frame p. refl })
 
 returns-3 : tie.Need-returns-3
-returns-3 c = added-as _ _ _ _ c.before.enum-told2.given.1 (record { right = λ frame p. refl })
+returns-3 c = added_as _ _ _ _ c.before.enum-told2.given.1 (record { right = λ frame p. refl })
 
 returns-4 : tie.Need-returns-4
-returns-4 c = added-as _ _ _ _ c.before.enum-told3.given.1 (record { right = λ frame p. refl })
+returns-4 c = added_as _ _ _ _ c.before.enum-told3.given.1 (record { right = λ frame p. refl })
 
 pub with-class-spec : {M : Type 1} → statement M
 with-class-spec =

@@ -2,23 +2,23 @@
 use mathlib.Core.Path.{◌≡◌, ap, sym, ◌∙◌}
 use borrow.Author.Rules.{rules}
 use Rattle.rules.specs.Outcome.{good}
-use Rattle.message.specs.Answers.{toldCheck}
+use Rattle.message.specs.Answers.{told_check}
 use Rattle.message.proofs.Messages.{too_large}
-use Rattle.capture.specs.Told.{weighed, toldWeighed}
-use Rattle.capture.proofs.Laying.{Checked, checked, checked-by, check-refused, weigh-refused, measured, no_room, roomy, done-with}
+use Rattle.capture.specs.Told.{weighed, told_weighed}
+use Rattle.capture.proofs.Laying.{Checked, checked, checked-by, check_refused, weigh_refused, measured, no_room, roomy, done-with}
 use Rattle.capture.proofs.write_capture.Statement.{statement}
 use Rattle.capture.proofs.write_capture.Tie as tie
 
 -- all messages were weighed
 weight : (c : tie.After-known-told3) → good c.before.t.given.0.0 ≡ weighed c.before.before.before.before.before.before.before.args.recording.now c.before.before.before.before.before.before.before.args.port
-weight c = ap toldWeighed (sym c.before.t.given.1) ∙ c.before.before.before.weigh.ensures.right c.before.before.before.before.before.before.before.args.port
+weight c = ap told_weighed (sym c.before.t.given.1) ∙ c.before.before.before.weigh.ensures.right c.before.before.before.before.before.before.before.args.port
 
 -- so that all pass
 passes : (c : tie.After-known-told3) → Checked c.before.before.before.before.before.before.before.args.recording.now
 passes c = checked-by _ c.before.before.before.before.before.before.before.args.port _ (search rules) (weight c)
 
 returns : tie.Need-returns
-returns c = let s = c.before.before.before in check-refused s.args.recording.now s.args.port s.args.out.now _ _ (too_large _ c.if1.true)
+returns c = let s = c.before.before.before in check_refused s.args.recording.now s.args.port s.args.out.now _ _ (too_large _ c.if1.true)
 
 weigh-requires : tie.Need-weigh-requires
 weigh-requires c κs = search rules
@@ -51,13 +51,13 @@ lay-requires c κs =
     (k.small, roomy s.args.recording.now s.args.port s.args.out.now k _ (measured s.args.recording.now s.args.port s.args.out.now k _ (weight c.before.before.before)) (search rules))
 
 returns-3 : tie.Need-returns-3
-returns-3 c = let s = c.before.before.before.before.before.before.before.before.before.before.before in check-refused s.args.recording.now s.args.port s.args.out.now _ _ (ap toldCheck (sym c.before.g.given.1) ∙ c.before.before.before.check.ensures)
+returns-3 c = let s = c.before.before.before.before.before.before.before.before.before.before.before in check_refused s.args.recording.now s.args.port s.args.out.now _ _ (ap told_check (sym c.before.g.given.1) ∙ c.before.before.before.check.ensures)
 
 returns-4 : tie.Need-returns-4
 returns-4 c =
     let s = c.before.before.before.before.before.before.before.before.before.before in
-    let k = checked s.args.recording.now _ _ (ap toldCheck (sym c.enum_told.given.1) ∙ c.before.before.check.ensures) in
-    weigh-refused s.args.recording.now s.args.port s.args.out.now k _ _ (ap toldWeighed (sym c.before.before.before.before.f.given.1) ∙ c.before.before.before.before.before.before.weigh.ensures.right s.args.port)
+    let k = checked s.args.recording.now _ _ (ap told_check (sym c.enum_told.given.1) ∙ c.before.before.check.ensures) in
+    weigh_refused s.args.recording.now s.args.port s.args.out.now k _ _ (ap told_weighed (sym c.before.before.before.before.f.given.1) ∙ c.before.before.before.before.before.before.weigh.ensures.right s.args.port)
 
 same_length : tie.Need-same-length
 same_length c = search rules

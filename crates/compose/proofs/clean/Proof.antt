@@ -10,9 +10,9 @@ use Rattle.rules.specs.Bytes.{Bytes}
 use Rattle.rules.specs.Message.{Message, message}
 use Rattle.rules.specs.Writer.{write}
 use Rattle.rules.specs.Clean.{cleaner}
-use Rattle.rules.proofs.Claims.{premises-met}
-use Rattle.message.specs.Answers.{toldHeader}
-use Rattle.message.proofs.Fronts.{front-stopped}
+use Rattle.rules.proofs.Claims.{premises_met}
+use Rattle.message.specs.Answers.{told_header}
+use Rattle.message.proofs.Fronts.{front_stopped}
 use Rattle.compose.specs.declared.Written.{Written}
 use Rattle.compose.specs.Told.{told}
 use Rattle.compose.proofs.Claims.{Stands, promised, cleaned-again}
@@ -30,12 +30,12 @@ enum-known-h : tie.Need-enum-known-h
 enum-known-h c = search rules
 
 clean-read-requires : tie.Need-clean-read-requires
-clean-read-requires c κs = ap toldHeader (sym c.before.before.h.given.1) ∙ c.before.before.before.before.Front-at.ensures
+clean-read-requires c κs = ap told_header (sym c.before.before.h.given.1) ∙ c.before.before.before.before.Front-at.ensures
 
 returns : tie.Need-returns
 returns c =
     let a = c.before.before.before.before.before.before.args in
-    clean-refused a.s.now a.out.now (front-stopped a.s.now 0 (ap toldHeader (sym c.before.x.given.1) ∙ c.before.before.before.Front-at.ensures))
+    clean-refused a.s.now a.out.now (front_stopped a.s.now 0 (ap told_header (sym c.before.x.given.1) ∙ c.before.before.before.Front-at.ensures))
 
 same_length : tie.Need-same-length
 same_length c = search rules
@@ -45,7 +45,7 @@ returns-2 c = c.before.before.clean-read.ensures
 
 -- whatever a caller hands over is bytes
 pub handed-bytes : (c : tie.After-shared-slice-known) → Bytes c.before.args.s.now
-handed-bytes c = premises-met.bytes _ (λ k. omega (arith, c.shared-slice-known.given k))
+handed-bytes c = premises_met.bytes _ (λ k. omega (arith, c.shared-slice-known.given k))
 
 -- so at every call the buffer that the promise allows is read as the record that was read
 pub every_call : (c : tie.After-shared-slice-known) (b : List ℕ) {m : Message} {n : ℕ} → length c.before.args.s.now ≤ 65536 → message 0 c.before.args.s.now ≡ good (m, n) → length (write m) ≤ length b

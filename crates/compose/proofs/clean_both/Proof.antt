@@ -6,7 +6,7 @@ use mathlib.Core.List.{List, ◌++◌}
 use native.Mathlib.Omega.{arith}
 use borrow.Author.Tests.{ltb-true}
 use lib.ListN.{length, take}
-use Rattle.compose.proofs.Run.{Lanes, lanes_start, lanes-length, lane-fits, one_lies, one_less, one-next, two-lies, two-less, two-next, lanes-ended}
+use Rattle.compose.proofs.Run.{Lanes, lanes_start, lanes_length, lane_fits, one_lies, one_less, one-next, two_lies, two-less, two-next, lanes_ended}
 use Rattle.compose.proofs.clean_both.Statement.{statement}
 use Rattle.compose.proofs.clean_both.Tie as tie
 
@@ -37,7 +37,7 @@ clean-next-requires : tie.Need-clean-next-requires invariant-loop decreases-loop
 clean-next-requires c κs =
     let l = c.before.before.before.loop in
     let a = c.before.before.before.before.before.before.before in (
-      lane-fits a.args.front.now a.requires.0.0 l.i l.invariant.one (omega arith),
+      lane_fits a.args.front.now a.requires.0.0 l.i l.invariant.one (omega arith),
       (omega arith, omega (arith, a.requires.1.0), one_lies a.args.front.now a.args.back.now a.args.out.now a.requires.1.1 l.out l.i l.j l.invariant a.requires.0.0 (omega arith)),
     )
 
@@ -46,8 +46,8 @@ clean-next-requires-2 c κs =
     let l = c.before.before.before.before.before.before.before.loop in
     let a = c.before.before.before.before.before.before.before.before.before.before.before in
     let w = one-next a.args.front.now a.args.back.now a.args.out.now a.requires.1.1 l.out l.i l.j l.invariant a.requires.0.0 (omega arith) c.before.before.before.clean-next.ensures in (
-      lane-fits a.args.back.now a.requires.0.1 l.j l.invariant.two (omega (arith, ltb-true)),
-      (omega (arith, ltb-true), omega (arith, a.requires.1.0), two-lies a.args.front.now a.args.back.now a.args.out.now a.requires.1.1 _ _ l.j w a.requires.0.1 (omega (arith, ltb-true))),
+      lane_fits a.args.back.now a.requires.0.1 l.j l.invariant.two (omega (arith, ltb-true)),
+      (omega (arith, ltb-true), omega (arith, a.requires.1.0), two_lies a.args.front.now a.args.back.now a.args.out.now a.requires.1.1 _ _ l.j w a.requires.0.1 (omega (arith, ltb-true))),
     )
 
 loop-less : tie.Need-loop-smaller invariant-loop decreases-loop invariant-loop2 decreases-loop2 invariant-loop3 decreases-loop3
@@ -73,7 +73,7 @@ clean-next-requires-3 c κs =
     let l = c.before.before.before.before.loop in
     let a = c.before.before.before.before.before.before.before.before in
     let w = k.invariant a.args.out.now a.requires.1.1 l.invariant in (
-      lane-fits a.args.front.now a.requires.0.0 k.i w.one (omega arith),
+      lane_fits a.args.front.now a.requires.0.0 k.i w.one (omega arith),
       (omega arith, omega (arith, a.requires.1.0), one_lies a.args.front.now a.args.back.now a.args.out.now a.requires.1.1 k.out k.i l.j w a.requires.0.0 (omega arith)),
     )
 
@@ -103,8 +103,8 @@ clean-next-requires-4 c κs =
     let l = c.before.before.before.before.before.before.loop in
     let a = c.before.before.before.before.before.before.before.before.before.before in
     let w = n.invariant a.args.out.now a.requires.1.1 (k.invariant a.args.out.now a.requires.1.1 l.invariant) in (
-      lane-fits a.args.back.now a.requires.0.1 n.j w.two (omega arith),
-      (omega arith, omega (arith, a.requires.1.0), two-lies a.args.front.now a.args.back.now a.args.out.now a.requires.1.1 n.out k.i n.j w a.requires.0.1 (omega arith)),
+      lane_fits a.args.back.now a.requires.0.1 n.j w.two (omega arith),
+      (omega arith, omega (arith, a.requires.1.0), two_lies a.args.front.now a.args.back.now a.args.out.now a.requires.1.1 n.out k.i n.j w a.requires.0.1 (omega arith)),
     )
 
 loop3-less : tie.Need-loop3-smaller invariant-loop decreases-loop invariant-loop2 decreases-loop2 invariant-loop3 decreases-loop3
@@ -130,7 +130,7 @@ same_length c =
     let l = c.before.before.before.before.before.loop in
     let a = c.before.before.before.before.before.before.before.before.before in
     let w = n.invariant a.args.out.now a.requires.1.1 (k.invariant a.args.out.now a.requires.1.1 l.invariant) in
-    lanes-length a.args.front.now a.args.back.now a.args.out.now n.out k.i n.j w
+    lanes_length a.args.front.now a.args.back.now a.args.out.now n.out k.i n.j w
 
 returns : tie.Need-returns invariant-loop decreases-loop invariant-loop2 decreases-loop2 invariant-loop3 decreases-loop3
 returns c =
@@ -139,7 +139,7 @@ returns c =
     let l = c.before.before.before.before.before.loop in
     let a = c.before.before.before.before.before.before.before.before.before in
     let w = n.invariant a.args.out.now a.requires.1.1 (k.invariant a.args.out.now a.requires.1.1 l.invariant) in
-    lanes-ended a.args.front.now a.args.back.now a.args.out.now a.requires.1.1 n.out k.i n.j w (omega arith) (omega arith)
+    lanes_ended a.args.front.now a.args.back.now a.args.out.now a.requires.1.1 n.out k.i n.j w (omega arith) (omega arith)
 
 pub clean-both-spec : {M : Type 1} → statement M
 clean-both-spec =

@@ -2,7 +2,7 @@
 use Prim.Native.Nat.{◌+◌}
 use native.Mathlib.Omega.{arith}
 use borrow.Author.Rules.{rules}
-use Rattle.rules.proofs.Claims.{premises-met}
+use Rattle.rules.proofs.Claims.{premises_met}
 use Rattle.rules.proofs.Cut.{fit}
 use Rattle.compose.proofs.Run.{cleaned}
 use Rattle.compose.proofs.clean_next.Statement.{statement}
@@ -51,7 +51,7 @@ returns c =
     let n = p.before.before in
     let h = n.before.before in
     let a = h.before.before.before in
-    let m = cleaned a.args.run.now a.args.out.now a.args.at (a.args.base + a.args.at) (premises-met.bytes _ (λ k. omega (arith, h.before.shared-slice-known.given k))) (fit _ a.requires.0) a.requires.1.2 h.half_at.ensures n.before.wide16.ensures.0 n.round_up.ensures p.put_byte.ensures z.put-zeros.ensures in
+    let m = cleaned a.args.run.now a.args.out.now a.args.at (a.args.base + a.args.at) (premises_met.bytes _ (λ k. omega (arith, h.before.shared-slice-known.given k))) (fit _ a.requires.0) a.requires.1.2 h.half_at.ensures n.before.wide16.ensures.0 n.round_up.ensures p.put_byte.ensures z.put-zeros.ensures in
     record { end = m.0; bytes = m.1 }
 
 pub clean-next-spec : {M : Type 1} → statement M

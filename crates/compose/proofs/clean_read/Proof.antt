@@ -7,13 +7,13 @@ use borrow.Author.Rules.{rules}
 use lib.ListN.{length}
 use Rattle.rules.specs.Outcome.{good}
 use Rattle.rules.specs.Bytes.{Bytes}
-use Rattle.message.specs.Answers.{spotOfMessage, frontAt, toldHeader}
+use Rattle.message.specs.Answers.{spot_of_message, front_at, told_header}
 use Rattle.message.specs.declared.Header.{Header}
 use Rattle.message.specs.declared.HeaderRead.TheVariants as header
 use Rattle.message.proofs.Fronts.{Fronted, fronted}
-use Rattle.rules.specs.Reading.{MessageSpot, messageAt}
-use Rattle.rules.proofs.Claims.{premises-met}
-use Rattle.compose.proofs.Cleaning.{Read, reads, clean-refused, clean-fits, clean-finished, package-refused, count-refused, payload-small, walked-halves, walked-spot}
+use Rattle.rules.specs.Reading.{MessageSpot, message_at}
+use Rattle.rules.proofs.Claims.{premises_met}
+use Rattle.compose.proofs.Cleaning.{Read, reads, clean-refused, clean-fits, clean-finished, package_refused, count-refused, payload-small, walked_halves, walked_spot}
 use Rattle.compose.proofs.clean_read.Statement.{statement}
 use Rattle.compose.proofs.clean_read.Tie as tie
 
@@ -24,25 +24,25 @@ S c = c.before.args.s.now
 abbrev H : tie.After-shared-slice-known → Header
 H c = c.before.args.h
 
-front-told : (c : tie.After-shared-slice-known) → toldHeader (header.Header (H c)) ≡ frontAt (S c) 0
+front-told : (c : tie.After-shared-slice-known) → told_header (header.Header (H c)) ≡ front_at (S c) 0
 front-told c = c.before.requires
 
 places : (c : tie.After-shared-slice-known) → Fronted (S c) 0 (H c)
 places c = fronted (S c) 0 (H c) (front-told c)
 
 bytes : (c : tie.After-shared-slice-known) → Bytes (S c)
-bytes c = premises-met.bytes _ (λ k. omega (arith, c.shared-slice-known.given k))
+bytes c = premises_met.bytes _ (λ k. omega (arith, c.shared-slice-known.given k))
 
 -- the message that passed, and what its reading says
 abbrev K : tie.Else2 → MessageSpot
 K c =
     let h = H c.before.before.before.before.before.before.before.before.before.before.before in
-    spotOfMessage (record { header = h; payload = 24 + 4 * h.words; next = h.length; packages = c.before.before.before.before.before.walk.result.all })
+    spot_of_message (record { header = h; payload = 24 + 4 * h.words; next = h.length; packages = c.before.before.before.before.before.walk.result.all })
 
-read_told : (c : tie.Else2) → good (K c) ≡ messageAt (S c.before.before.before.before.before.before.before.before.before.before.before) 0
+read_told : (c : tie.Else2) → good (K c) ≡ message_at (S c.before.before.before.before.before.before.before.before.before.before.before) 0
 read_told c =
     let h = c.before.before.before.before.before.before.before.before.before.before.before in
-    walked-spot (S h) (H h) (front-told h) c.before.before.before.before.before.walk.result c.before.before.before.before.before.walk.ensures (omega arith) (sym c.before.miscounts.ensures ∙ c.if2.false)
+    walked_spot (S h) (H h) (front-told h) c.before.before.before.before.before.walk.result c.before.before.before.before.before.walk.ensures (omega arith) (sym c.before.miscounts.ensures ∙ c.if2.false)
 
 read : (c : tie.Else2) → Read (S c.before.before.before.before.before.before.before.before.before.before.before) (K c)
 read c = reads (S c.before.before.before.before.before.before.before.before.before.before.before) (K c) (bytes c.before.before.before.before.before.before.before.before.before.before.before) (read_told c)
@@ -83,7 +83,7 @@ add-t16 c = search rules
 returns : tie.Need-returns
 returns c =
     let h = c.before.before.before.before.before.before.before.before.before in
-    clean-refused (S h) h.before.args.out.now (package-refused (S h) (H h) (front-told h) c.before.before.before.walk.result c.before.before.before.walk.ensures (omega arith))
+    clean-refused (S h) h.before.args.out.now (package_refused (S h) (H h) (front-told h) c.before.before.before.walk.result c.before.before.before.walk.ensures (omega arith))
 
 sub-miscounts : tie.Need-overflow-sub-miscounts
 sub-miscounts c = search rules
@@ -139,7 +139,7 @@ finish-requires : tie.Need-finish-requires
 finish-requires c κs =
     let x = c.before.before.before.before.before in
     let h = c.before.before.before.before.before.before.before.before.before.before.before.before.before.before.before.before in (
-      walked-halves (S h) (H h) (front-told h) c.before.before.before.before.before.before.before.before.before.before.walk.result c.before.before.before.before.before.before.before.before.before.before.walk.ensures (omega arith),
+      walked_halves (S h) (H h) (front-told h) c.before.before.before.before.before.before.before.before.before.before.walk.result c.before.before.before.before.before.before.before.before.before.before.walk.ensures (omega arith),
       rw c.before.before.before.record_of.ensures (clean-fits (S h) h.before.args.out.now (K x) (bytes h) (read_told x) c.before.before.before.before.round_up.ensures),
     )
 

@@ -8,7 +8,7 @@ use lib.ListN.{length, drop, length-drop}
 use Rattle.rules.specs.Bytes.{half, pad}
 use Rattle.rules.proofs.Cut as Cut
 use Rattle.rules.proofs.Numbers.{half-drop}
-use Rattle.compose.proofs.Walking.{Walking, walk_start, walk-ended, walk-stopped, walk_same, walk-border}
+use Rattle.compose.proofs.Walking.{Walking, walk_start, walk_ended, walk_stopped, walk_same, walk_border}
 use Rattle.compose.proofs.walk.Statement.{statement}
 use Rattle.compose.proofs.walk.Tie as tie
 
@@ -34,7 +34,7 @@ returns : tie.Need-returns invariant-loop decreases-loop
 returns c =
     let l = c.before.before.loop in
     let a = c.before.before.before.before in
-    walk-stopped a.args.run.now l.i l.all l.mid l.invariant (omega arith) (λ f. omega (arith, f.header, length-drop l.i a.args.run.now))
+    walk_stopped a.args.run.now l.i l.all l.mid l.invariant (omega arith) (λ f. omega (arith, f.header, length-drop l.i a.args.run.now))
 
 add-half-at : tie.Need-overflow-add-half-at invariant-loop decreases-loop
 add-half-at c =
@@ -54,7 +54,7 @@ returns-2 : tie.Need-returns-2 invariant-loop decreases-loop
 returns-2 c =
     let l = c.before.before.before.before.before.loop in
     let a = c.before.before.before.before.before.before.before in
-    walk-stopped a.args.run.now l.i l.all l.mid l.invariant (omega arith) (λ f. omega (arith, f.least, wide c.before))
+    walk_stopped a.args.run.now l.i l.all l.mid l.invariant (omega arith) (λ f. omega (arith, f.least, wide c.before))
 
 round-up-requires : tie.Need-round-up-requires invariant-loop decreases-loop
 round-up-requires c κs =
@@ -64,7 +64,7 @@ returns-3 : tie.Need-returns-3 invariant-loop decreases-loop
 returns-3 c =
     let l = c.before.before.before.before.before.before.before.loop in
     let a = c.before.before.before.before.before.before.before.before.before in
-    walk-stopped a.args.run.now l.i l.all l.mid l.invariant (omega arith) (λ f. omega (arith, f.room, wide c.before.before.before, c.before.round_up.ensures, length-drop l.i a.args.run.now))
+    walk_stopped a.args.run.now l.i l.all l.mid l.invariant (omega arith) (λ f. omega (arith, f.room, wide c.before.before.before, c.before.round_up.ensures, length-drop l.i a.args.run.now))
 
 add-mid : tie.Need-overflow-add-mid invariant-loop decreases-loop
 add-mid c =
@@ -103,14 +103,14 @@ loop-again c =
     let a = c.before.before.before.before.before.before.before.before.before.before in
     let f = fit c.before in
     let g = c.before.before.round_up.ensures ∙ ap pad (wide c.before.before.before.before) in
-    ⊎_elim (λ x. subst (λ (y : ℕ). Walking a.args.run.now (l.i + c.before.before.round_up.result) (l.all + 1) y) (sym x.1) (walk-border a.args.run.now l.i l.all l.mid l.invariant (omega arith) f g))
+    ⊎_elim (λ x. subst (λ (y : ℕ). Walking a.args.run.now (l.i + c.before.before.round_up.result) (l.all + 1) y) (sym x.1) (walk_border a.args.run.now l.i l.all l.mid l.invariant (omega arith) f g))
     (λ x. subst (λ (y : ℕ). Walking a.args.run.now (l.i + c.before.before.round_up.result) (l.all + 1) y) (sym x.1) (walk_same a.args.run.now l.i l.all l.mid l.invariant (omega arith) f g)) c.if4.branch
 
 returns-4 : tie.Need-returns-4 invariant-loop decreases-loop
 returns-4 c =
     let l = c.before.loop in
     let a = c.before.before.before in
-    walk-ended a.args.run.now l.i l.all l.mid l.invariant (omega arith)
+    walk_ended a.args.run.now l.i l.all l.mid l.invariant (omega arith)
 
 pub walk-spec : {M : Type 1} → statement M
 walk-spec =

@@ -3,13 +3,13 @@ use mathlib.Core.Path.{◌≡◌, sym, ap, ◌∙◌}
 use Prim.Native.Nat.{ℕ}
 use mathlib.Core.List.{List}
 use native.Mathlib.Omega.{arith}
-use Rattle.fragments.specs.Told.{toldCut}
+use Rattle.fragments.specs.Told.{told_cut}
 use Rattle.fragments.specs.declared.Fragmented.{Fragmented}
 use Rattle.rules.specs.Outcome.{good}
 use Rattle.rules.specs.Bytes.{Bytes}
-use Rattle.message.specs.Answers.{spotOfMessage, toldMessage}
-use Rattle.rules.specs.Reading.{MessageSpot, messageAt}
-use Rattle.fragments.proofs.Answering.{Read, reads, same_by, not-read, size_low, size-odd, whole-options, has-offset, fits-is, full, cuttable, cut-is}
+use Rattle.message.specs.Answers.{spot_of_message, told_message}
+use Rattle.rules.specs.Reading.{MessageSpot, message_at}
+use Rattle.fragments.proofs.Answering.{Read, reads, same_by, not_read, size_low, size_odd, whole-options, has_offset, fits-is, full, cuttable, cut-is}
 use borrow.Author.Rules.{rules}
 use Rattle.fragments.proofs.cut.Statement.{statement}
 use Rattle.fragments.proofs.cut.Tie as tie
@@ -25,13 +25,13 @@ abbrev S : tie.After-m → List ℕ
 S c = c.before.before.before.before.before.args.s.now
 
 abbrev K : tie.After-m → MessageSpot
-K c = spotOfMessage c.m.given.0.0
+K c = spot_of_message c.m.given.0.0
 
 bytes : (c : tie.After-m) → Bytes (S c)
 bytes c = record { below = λ k. omega (arith, c.before.before.before.before.shared-slice-known.given k) }
 
-read_told : (c : tie.After-m) → good (K c) ≡ messageAt (S c) 0
-read_told c = ap toldMessage (sym c.m.given.1) ∙ c.before.before.message-at.ensures
+read_told : (c : tie.After-m) → good (K c) ≡ message_at (S c) 0
+read_told c = ap told_message (sym c.m.given.1) ∙ c.before.before.message-at.ensures
 
 read : (c : tie.After-m) → Read (S c) (K c)
 read c = reads (S c) (K c) (bytes c) (read_told c)
@@ -52,13 +52,13 @@ refuse-requires : tie.Need-refuse-requires
 refuse-requires c κs = search rules
 
 returns : tie.Need-returns
-returns c = let m = c.before.before.before.before.before in let w = read m in let a = m.before.before.before.before.before.args in ap (λ (x : Fragmented). toldCut x a.out.now) c.refuse.ensures ∙ size_low a.size (S m) a.out.now (K m) w (omega arith)
+returns c = let m = c.before.before.before.before.before in let w = read m in let a = m.before.before.before.before.before.args in ap (λ (x : Fragmented). told_cut x a.out.now) c.refuse.ensures ∙ size_low a.size (S m) a.out.now (K m) w (omega arith)
 
 refuse-requires-2 : tie.Need-refuse-requires-2
 refuse-requires-2 c κs = search rules
 
 returns-2 : tie.Need-returns-2
-returns-2 c = let m = c.before.before.before.before.before.before in let w = read m in let a = m.before.before.before.before.before.args in ap (λ (x : Fragmented). toldCut x a.out.now) c.refuse2.ensures ∙ size-odd a.size (S m) a.out.now (K m) w (omega arith) (λ z. omega arith)
+returns-2 c = let m = c.before.before.before.before.before.before in let w = read m in let a = m.before.before.before.before.before.args in ap (λ (x : Fragmented). told_cut x a.out.now) c.refuse2.ensures ∙ size_odd a.size (S m) a.out.now (K m) w (omega arith) (λ z. omega arith)
 
 sub-find-offset : tie.Need-overflow-sub-find-offset
 sub-find-offset c = search rules
@@ -79,7 +79,7 @@ refuse-requires-3 : tie.Need-refuse-requires-3
 refuse-requires-3 c κs = search rules
 
 returns-3 : tie.Need-returns-3
-returns-3 c = let m = c.before.before.before.before.before.before.before.before.before.before in let w = read m in let a = m.before.before.before.before.before.args in ap (λ (x : Fragmented). toldCut x a.out.now) c.refuse3.ensures ∙ has-offset a.size (S m) a.out.now (K m) w (omega arith) (omega arith) _ c.before.before.before.find-offset.ensures (omega arith)
+returns-3 c = let m = c.before.before.before.before.before.before.before.before.before.before in let w = read m in let a = m.before.before.before.before.before.args in ap (λ (x : Fragmented). told_cut x a.out.now) c.refuse3.ensures ∙ has_offset a.size (S m) a.out.now (K m) w (omega arith) (omega arith) _ c.before.before.before.find-offset.ensures (omega arith)
 
 sub-if4 : tie.Need-overflow-sub-if4
 sub-if4 c = let m = c.before.before.before.before.before.before.before.before.before in let w = read m in omega (arith, w.least)
@@ -97,7 +97,7 @@ refuse-requires-4 : tie.Need-refuse-requires-4
 refuse-requires-4 c κs = search rules
 
 returns-5 : tie.Need-returns-5
-returns-5 c = let m = c.before.before.before.before.before.before.before.before.before.before.before.before.before in let w = read m in let a = m.before.before.before.before.before.args in ap (λ (x : Fragmented). toldCut x a.out.now) c.refuse4.ensures ∙ full a.size (S m) a.out.now (K m) w (omega arith) (omega arith) _ c.before.before.before.before.before.before.find-offset.ensures (omega arith) (omega arith) (omega arith)
+returns-5 c = let m = c.before.before.before.before.before.before.before.before.before.before.before.before.before in let w = read m in let a = m.before.before.before.before.before.args in ap (λ (x : Fragmented). told_cut x a.out.now) c.refuse4.ensures ∙ full a.size (S m) a.out.now (K m) w (omega arith) (omega arith) _ c.before.before.before.before.before.before.find-offset.ensures (omega arith) (omega arith) (omega arith)
 
 record-of-requires : tie.Need-record-of-requires
 record-of-requires c κs = search rules
@@ -124,7 +124,7 @@ finish-cut-requires : tie.Need-finish-cut-requires
 finish-cut-requires c κs = let m = c.before.before.before.before.before.before.before.before.before.before.before.before.before.before.before.before in let w = read m in let a = m.before.before.before.before.before.args in cuttable a.size (S m) a.out.now (K m) w (omega (arith, c.before.before.before.before.before.before.before.before.before.before.before.before.if1.false)) (omega (arith, c.before.before.before.before.before.before.before.before.before.before.before.if2.false)) _ c.before.before.before.before.before.before.before.before.before.find-offset.ensures (omega (arith, c.before.before.before.before.before.before.before.if3.false)) _ (same_by m.m.given.0.0.header _ _ _ _ c.before.before.before.record_of.ensures) (omega (arith, c.before.before.before.before.before.before.if4.false)) (omega (arith, c.before.before.before.before.if5.false))
 
 returns-6 : tie.Need-returns-6
-returns-6 c = let a = c.before.before.before.before.before.before.args in not-read a.size a.s.now a.out.now (ap toldMessage (sym c.before.x.given.1) ∙ c.before.before.before.message-at.ensures)
+returns-6 c = let a = c.before.before.before.before.before.before.args in not_read a.size a.s.now a.out.now (ap told_message (sym c.before.x.given.1) ∙ c.before.before.before.message-at.ensures)
 
 same-length-2 : tie.Need-same-length-2
 same-length-2 c = search rules

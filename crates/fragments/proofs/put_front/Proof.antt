@@ -1,5 +1,5 @@
 -- `fragments::put_front` meets its contract: the header of a message, with the fragment's flags stored over its own.
-use Rattle.fragments.proofs.Stores.{front-put}
+use Rattle.fragments.proofs.Stores.{front_put}
 use borrow.Author.Rules.{rules}
 use Rattle.fragments.proofs.put_front.Statement.{statement}
 use Rattle.fragments.proofs.put_front.Tie as tie
@@ -35,7 +35,7 @@ returns c =
     let b = c.before.before in
     let h = b.before.before.before.before in
     let g = h.before.before.before in
-    front-put g.args.out.now g.args.r g.args.words g.args.flags g.args.size g.requires.1 g.requires.3 h.put-header.ensures b.put_byte.ensures
+    front_put g.args.out.now g.args.r g.args.words g.args.flags g.args.size g.requires.1 g.requires.3 h.put-header.ensures b.put_byte.ensures
 
 pub put-front-spec : {M : Type 1} → statement M
 put-front-spec =

@@ -7,9 +7,9 @@ use mathlib.Core.List.{List}
 use Prim.Native.Nat.{ℕ}
 use mathlib.Core.Option.{none}
 use Rattle.compose.specs.Payload.{Cuts}
-use Rattle.fragments.specs.Joining.{fragmentsFrom}
-use Rattle.fragments.specs.Stored.{keptBy, payloadsIn}
-use Rattle.fragments.proofs.Finishing.{joined-raw, pay-back, joined-clean}
+use Rattle.fragments.specs.Joining.{fragments_from}
+use Rattle.fragments.specs.Stored.{kept_by, payloads_in}
+use Rattle.fragments.proofs.Finishing.{joined_raw, pay_back, joined-clean}
 use borrow.Author.Rules.{rules}
 use Rattle.fragments.proofs.put_joined.Statement.{statement}
 use Rattle.fragments.proofs.put_joined.Tie as tie
@@ -57,13 +57,13 @@ part-clean-run-end : tie.Need-slice-bounds-clean-run-end
 part-clean-run-end c = search rules
 
 clean-run-requires : tie.Need-clean-run-requires
-clean-run-requires c κs = let g = c.before.before.before.before.before.before.before.before.before.before.before.before.before.before.before.before.before.before.before.before.before in let a = g.args in let t = g.requires.1.1 in let z = sym (pay-back a.r (keptBy a.bits a.run.now) a.s.now a.out.now a.k _ a.n (payloadsIn (fragmentsFrom none 0 0 a.s.now)) t.kept c.before.before.before.before.before.before.before.before.before.before.before.before.before.before.before.before.before.round_up.ensures t.size t.cuts t.room _ (joined-raw a.r (keptBy a.bits a.run.now) a.s.now a.out.now a.k _ a.n (payloadsIn (fragmentsFrom none 0 0 a.s.now)) t.kept c.before.before.before.before.before.before.before.before.before.before.before.before.before.before.before.before.before.round_up.ensures t.size t.cuts t.room c.before.before.before.before.before.before.before.before.before.before.before.before.before.before.before.put_front.ensures c.before.before.before.before.before.before.before.before.before.before.before.put-kept-of.ensures c.before.before.before.before.before.before.before.put-zeros.ensures c.before.before.before.put-payloads.ensures)) in (subst Cuts z t.cuts, subst (λ (x : List ℕ). length x ≤ 65536) z (omega (arith, t.payload)))
+clean-run-requires c κs = let g = c.before.before.before.before.before.before.before.before.before.before.before.before.before.before.before.before.before.before.before.before.before in let a = g.args in let t = g.requires.1.1 in let z = sym (pay_back a.r (kept_by a.bits a.run.now) a.s.now a.out.now a.k _ a.n (payloads_in (fragments_from none 0 0 a.s.now)) t.kept c.before.before.before.before.before.before.before.before.before.before.before.before.before.before.before.before.before.round_up.ensures t.size t.cuts t.room _ (joined_raw a.r (kept_by a.bits a.run.now) a.s.now a.out.now a.k _ a.n (payloads_in (fragments_from none 0 0 a.s.now)) t.kept c.before.before.before.before.before.before.before.before.before.before.before.before.before.before.before.before.before.round_up.ensures t.size t.cuts t.room c.before.before.before.before.before.before.before.before.before.before.before.before.before.before.before.put_front.ensures c.before.before.before.before.before.before.before.before.before.before.before.put-kept-of.ensures c.before.before.before.before.before.before.before.put-zeros.ensures c.before.before.before.put-payloads.ensures)) in (subst Cuts z t.cuts, subst (λ (x : List ℕ). length x ≤ 65536) z (omega (arith, t.payload)))
 
 same_length : tie.Need-same-length
 same_length c = search rules
 
 returns : tie.Need-returns
-returns c = let g = c.before.before.before.before.before.before.before.before.before.before.before.before.before.before.before.before.before.before.before.before.before.before.before.before in let a = g.args in let t = g.requires.1.1 in joined-clean a.r (keptBy a.bits a.run.now) a.s.now a.out.now a.k _ a.n (payloadsIn (fragmentsFrom none 0 0 a.s.now)) t.kept c.before.before.before.before.before.before.before.before.before.before.before.before.before.before.before.before.before.before.before.before.round_up.ensures t.size t.cuts t.room _ (joined-raw a.r (keptBy a.bits a.run.now) a.s.now a.out.now a.k _ a.n (payloadsIn (fragmentsFrom none 0 0 a.s.now)) t.kept c.before.before.before.before.before.before.before.before.before.before.before.before.before.before.before.before.before.before.before.before.round_up.ensures t.size t.cuts t.room c.before.before.before.before.before.before.before.before.before.before.before.before.before.before.before.before.before.before.put_front.ensures c.before.before.before.before.before.before.before.before.before.before.before.before.before.before.put-kept-of.ensures c.before.before.before.before.before.before.before.before.before.before.put-zeros.ensures c.before.before.before.before.before.before.put-payloads.ensures) _ c.before.before.Clean-run.ensures
+returns c = let g = c.before.before.before.before.before.before.before.before.before.before.before.before.before.before.before.before.before.before.before.before.before.before.before.before in let a = g.args in let t = g.requires.1.1 in joined-clean a.r (kept_by a.bits a.run.now) a.s.now a.out.now a.k _ a.n (payloads_in (fragments_from none 0 0 a.s.now)) t.kept c.before.before.before.before.before.before.before.before.before.before.before.before.before.before.before.before.before.before.before.before.round_up.ensures t.size t.cuts t.room _ (joined_raw a.r (kept_by a.bits a.run.now) a.s.now a.out.now a.k _ a.n (payloads_in (fragments_from none 0 0 a.s.now)) t.kept c.before.before.before.before.before.before.before.before.before.before.before.before.before.before.before.before.before.before.before.before.round_up.ensures t.size t.cuts t.room c.before.before.before.before.before.before.before.before.before.before.before.before.before.before.before.before.before.before.put_front.ensures c.before.before.before.before.before.before.before.before.before.before.before.before.before.before.put-kept-of.ensures c.before.before.before.before.before.before.before.before.before.before.put-zeros.ensures c.before.before.before.before.before.before.put-payloads.ensures) _ c.before.before.Clean-run.ensures
 
 pub put-joined-spec : {M : Type 1} → statement M
 put-joined-spec =

@@ -2,13 +2,13 @@
 use Prim.Native.Nat.{◌-◌, ◌≤◌}
 use mathlib.Core.Path.{◌≡◌, refl, sym, ◌∙◌}
 use native.Mathlib.Omega.{arith}
-use Rattle.hibernaxo.specs.Radio.{allWithin}
-use Rattle.hibernaxo.proofs.Within.{within-next, within-stop, within_end}
+use Rattle.hibernaxo.specs.Radio.{all_within}
+use Rattle.hibernaxo.proofs.Within.{within-next, within_stop, within_end}
 use Rattle.hibernaxo.proofs.all_within.Statement.{statement}
 use Rattle.hibernaxo.proofs.all_within.Tie as tie
 
 abbrev invariant-loop : tie.invariant-loop
-invariant-loop fields bounds i₀ i = (i ≤ 11) × (allWithin 11 0 fields bounds ≡ allWithin (11 - i) i fields bounds)
+invariant-loop fields bounds i₀ i = (i ≤ 11) × (all_within 11 0 fields bounds ≡ all_within (11 - i) i fields bounds)
 
 abbrev decreases-loop : tie.decreases-loop
 decreases-loop fields bounds i₀ i = 11 - i
@@ -32,7 +32,7 @@ returns : tie.Need-returns invariant-loop decreases-loop
 returns c =
     let v = c.before.before.before.loop in
     let a = c.before.before.before.before.args in
-    sym (v.invariant.1 ∙ within-stop a.fields.now a.t2 11 v.i (omega arith) c.if1.true)
+    sym (v.invariant.1 ∙ within_stop a.fields.now a.t2 11 v.i (omega arith) c.if1.true)
 
 add-i : tie.Need-overflow-add-i invariant-loop decreases-loop
 add-i c = omega arith

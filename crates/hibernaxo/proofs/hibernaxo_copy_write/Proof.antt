@@ -1,7 +1,7 @@
 -- `hibernaxo::hibernaxo_copy_write` meets its contract: what writing answered, and the buffer that it left.
 use borrow.Author.Rules.{rules}
 use Rattle.release.specs.Told.{numbers}
-use Rattle.hibernaxo.specs.Told.{answerValues}
+use Rattle.hibernaxo.specs.Told.{answer_values}
 use Rattle.hibernaxo.proofs.Buffers.{with-buffer}
 use Rattle.hibernaxo.proofs.hibernaxo_copy_write.Statement.{statement}
 use Rattle.hibernaxo.proofs.hibernaxo_copy_write.Tie as tie
@@ -16,7 +16,7 @@ same_length : tie.Need-same-length
 same_length c = search rules
 
 returns : tie.Need-returns
-returns c = with-buffer answerValues (numbers c.before.before.before.before.write.result) _ c.put-answer.ensures c.before.before.before.before.write.ensures
+returns c = with-buffer answer_values (numbers c.before.before.before.before.write.result) _ c.put-answer.ensures c.before.before.before.before.write.ensures
 
 pub hibernaxo-copy-write-spec : {M : Type 1} → statement M
 hibernaxo-copy-write-spec = tie.close (tie.spec write-requires put-answer-requires same_length returns)

@@ -1,7 +1,7 @@
 -- `hibernaxo::hibernaxo_header` meets its contract: what reading told, by the definition's cases.
 use mathlib.Core.Path.{ap}
 use borrow.Author.Rules.{rules}
-use Rattle.hibernaxo.specs.Told.{headerTold}
+use Rattle.hibernaxo.specs.Told.{header_told}
 use Rattle.hibernaxo.proofs.hibernaxo_header.Statement.{statement}
 use Rattle.hibernaxo.proofs.hibernaxo_header.Tie as tie
 
@@ -39,10 +39,10 @@ number-in-requires : tie.Need-number-in-requires
 number-in-requires c κs = search rules
 
 returns : tie.Need-returns
-returns c = ap headerTold (rw c.before.before.before.before.before.before.before.before.before.h.given.1 at c.before.before.before.before.before.before.before.before.before.before.before.read-header.ensures)
+returns c = ap header_told (rw c.before.before.before.before.before.before.before.before.before.h.given.1 at c.before.before.before.before.before.before.before.before.before.before.before.read-header.ensures)
 
 returns-2 : tie.Need-returns-2
-returns-2 c = rw c.number_in.ensures (ap headerTold (rw c.before.before.before.x.given.1 at c.before.before.before.before.before.read-header.ensures))
+returns-2 c = rw c.number_in.ensures (ap header_told (rw c.before.before.before.x.given.1 at c.before.before.before.before.before.read-header.ensures))
 
 pub hibernaxo-header-spec : {M : Type 1} → statement M
 hibernaxo-header-spec =

@@ -3,7 +3,7 @@ use mathlib.Core.Path.{sym, ap}
 use borrow.Author.Rules.{rules}
 use native.Mathlib.Omega.{arith}
 use Rattle.message.proofs.Pieces.{inside}
-use Rattle.hibernaxo.specs.Told.{stepTold}
+use Rattle.hibernaxo.specs.Told.{step_told}
 use Rattle.hibernaxo.proofs.hibernaxo_package.Statement.{statement}
 use Rattle.hibernaxo.proofs.hibernaxo_package.Tie as tie
 
@@ -41,13 +41,13 @@ number-in-requires : tie.Need-number-in-requires
 number-in-requires c κs = search rules
 
 returns : tie.Need-returns
-returns c = ap (stepTold _) (rw c.before.before.before.before.before.before.before.k.given.1 at c.before.before.before.before.before.before.before.before.before.step-at.ensures)
+returns c = ap (step_told _) (rw c.before.before.before.before.before.before.before.k.given.1 at c.before.before.before.before.before.before.before.before.before.step-at.ensures)
 
 returns-2 : tie.Need-returns-2
-returns-2 c = ap (stepTold _) (rw c.before.enum_told.given.1 at c.before.before.before.step-at.ensures)
+returns-2 c = ap (step_told _) (rw c.before.enum_told.given.1 at c.before.before.before.step-at.ensures)
 
 returns-3 : tie.Need-returns-3
-returns-3 c = rw c.number_in.ensures (ap (stepTold _) (rw c.before.before.before.x.given.1 at c.before.before.before.before.before.step-at.ensures))
+returns-3 c = rw c.number_in.ensures (ap (step_told _) (rw c.before.before.before.x.given.1 at c.before.before.before.before.before.step-at.ensures))
 
 pub hibernaxo-package-spec : {M : Type 1} → statement M
 hibernaxo-package-spec =

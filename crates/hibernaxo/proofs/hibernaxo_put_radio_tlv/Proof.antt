@@ -1,6 +1,6 @@
 -- `hibernaxo::hibernaxo_put_radio_tlv` meets its contract: what putting answered, and the buffer that it left.
 use Rattle.compose.specs.Told.{numbers}
-use Rattle.hibernaxo.specs.Told.{writtenValues}
+use Rattle.hibernaxo.specs.Told.{written_values}
 use Rattle.hibernaxo.proofs.Buffers.{with-buffer}
 use borrow.Author.Rules.{rules}
 use Rattle.hibernaxo.proofs.hibernaxo_put_radio_tlv.Statement.{statement}
@@ -19,7 +19,7 @@ same_length : tie.Need-same-length
 same_length c = search rules
 
 returns : tie.Need-returns
-returns c = with-buffer writtenValues (numbers c.before.before.before.before.put-handed.result) _ c.Put-written.ensures (rw c.before.before.before.before.before.before.tlv-in.ensures at c.before.before.before.before.put-handed.ensures)
+returns c = with-buffer written_values (numbers c.before.before.before.before.put-handed.result) _ c.Put-written.ensures (rw c.before.before.before.before.before.before.tlv-in.ensures at c.before.before.before.before.put-handed.ensures)
 
 pub hibernaxo-put-radio-tlv-spec : {M : Type 1} → statement M
 hibernaxo-put-radio-tlv-spec =

@@ -1,6 +1,6 @@
 -- `hibernaxo::hibernaxo_radio_tlv` meets its contract: what the step told, by the definition's cases.
 use mathlib.Core.Path.{ap}
-use Rattle.hibernaxo.specs.Radio.{tlvTold}
+use Rattle.hibernaxo.specs.Radio.{tlv_told}
 use borrow.Author.Rules.{rules}
 use Rattle.hibernaxo.proofs.hibernaxo_radio_tlv.Statement.{statement}
 use Rattle.hibernaxo.proofs.hibernaxo_radio_tlv.Tie as tie
@@ -24,13 +24,13 @@ number-in-requires : tie.Need-number-in-requires
 number-in-requires c κs = search rules
 
 returns : tie.Need-returns
-returns c = rw c.tlv-values.ensures (ap (tlvTold _) (rw c.before.before.tlv.given.1 at c.before.before.before.before.tlv-at.ensures))
+returns c = rw c.tlv-values.ensures (ap (tlv_told _) (rw c.before.before.tlv.given.1 at c.before.before.before.before.tlv-at.ensures))
 
 returns-2 : tie.Need-returns-2
-returns-2 c = ap (tlvTold _) (rw c.before.enum_told.given.1 at c.before.before.before.tlv-at.ensures)
+returns-2 c = ap (tlv_told _) (rw c.before.enum_told.given.1 at c.before.before.before.tlv-at.ensures)
 
 returns-3 : tie.Need-returns-3
-returns-3 c = rw c.number_in.ensures (ap (tlvTold _) (rw c.before.before.before.x.given.1 at c.before.before.before.before.before.tlv-at.ensures))
+returns-3 c = rw c.number_in.ensures (ap (tlv_told _) (rw c.before.before.before.x.given.1 at c.before.before.before.before.before.tlv-at.ensures))
 
 pub hibernaxo-radio-tlv-spec : {M : Type 1} → statement M
 hibernaxo-radio-tlv-spec =

@@ -5,7 +5,7 @@ use mathlib.Core.List.{List}
 use lib.ListN.{length, length-map}
 use Rattle.rules.specs.Outcome.{Outcome}
 use Rattle.ids.specs.Reader.{Range}
-use Rattle.hibernaxo.specs.Told.{idsTold}
+use Rattle.hibernaxo.specs.Told.{ids_told}
 use Rattle.hibernaxo.proofs.Ids.{shown}
 use borrow.Author.Rules.{rules}
 use Rattle.hibernaxo.proofs.hibernaxo_read_ids.Statement.{statement}
@@ -43,7 +43,7 @@ returns c =
     shown _ read.result.ranges read.result.count n c.put-ranges.ensures (ap (λ (x : Read). x.0) (rw c.before.before.before.enum_told.given.1 at read.ensures))
 
 returns-2 : tie.Need-returns-2
-returns-2 c = rw c.number_in.ensures (ap (λ (x : Read). idsTold x.0) (rw c.before.before.answer.given.1 at c.before.before.before.before.before.read-ids.ensures))
+returns-2 c = rw c.number_in.ensures (ap (λ (x : Read). ids_told x.0) (rw c.before.before.answer.given.1 at c.before.before.before.before.before.read-ids.ensures))
 
 pub hibernaxo-read-ids-spec : {M : Type 1} → statement M
 hibernaxo-read-ids-spec =

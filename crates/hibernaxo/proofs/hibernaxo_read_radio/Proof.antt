@@ -1,6 +1,6 @@
 -- `hibernaxo::hibernaxo_read_radio` meets its contract: what reading told, by the definition's cases.
 use mathlib.Core.Path.{ap}
-use Rattle.hibernaxo.specs.Radio.{radioTold}
+use Rattle.hibernaxo.specs.Radio.{radio_told}
 use borrow.Author.Rules.{rules}
 use Rattle.hibernaxo.proofs.hibernaxo_read_radio.Statement.{statement}
 use Rattle.hibernaxo.proofs.hibernaxo_read_radio.Tie as tie
@@ -27,10 +27,10 @@ number-in-requires : tie.Need-number-in-requires
 number-in-requires c κs = search rules
 
 returns : tie.Need-returns
-returns c = ap radioTold (rw c.before.before.before.before.before.head.given.1 at c.before.before.before.before.before.before.before.read.ensures)
+returns c = ap radio_told (rw c.before.before.before.before.before.head.given.1 at c.before.before.before.before.before.before.before.read.ensures)
 
 returns-2 : tie.Need-returns-2
-returns-2 c = rw c.number_in.ensures (ap radioTold (rw c.before.before.before.x.given.1 at c.before.before.before.before.before.read.ensures))
+returns-2 c = rw c.number_in.ensures (ap radio_told (rw c.before.before.before.x.given.1 at c.before.before.before.before.before.read.ensures))
 
 pub hibernaxo-read-radio-spec : {M : Type 1} → statement M
 hibernaxo-read-radio-spec =

@@ -1,7 +1,7 @@
 -- `hibernaxo::hibernaxo_salvage` meets its contract: what the salvage answered, and the buffer that it left.
 use borrow.Author.Rules.{rules}
 use Rattle.salvage.specs.Told.{report}
-use Rattle.hibernaxo.specs.Told.{salvageValues}
+use Rattle.hibernaxo.specs.Told.{salvage_values}
 use Rattle.hibernaxo.proofs.Buffers.{with-buffer}
 use Rattle.hibernaxo.proofs.hibernaxo_salvage.Statement.{statement}
 use Rattle.hibernaxo.proofs.hibernaxo_salvage.Tie as tie
@@ -16,7 +16,7 @@ same_length : tie.Need-same-length
 same_length c = search rules
 
 returns : tie.Need-returns
-returns c = with-buffer salvageValues (report c.before.before.before.before.salvage.result) _ c.put-salvaged.ensures c.before.before.before.before.salvage.ensures
+returns c = with-buffer salvage_values (report c.before.before.before.before.salvage.result) _ c.put-salvaged.ensures c.before.before.before.before.salvage.ensures
 
 pub hibernaxo-salvage-spec : {M : Type 1} → statement M
 hibernaxo-salvage-spec = tie.close (tie.spec salvage-requires put-salvaged-requires same_length returns)

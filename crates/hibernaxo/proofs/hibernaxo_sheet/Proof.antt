@@ -5,7 +5,7 @@ use mathlib.Core.List.{List}
 use lib.ListN.{length, length-map}
 use Rattle.rules.specs.Outcome.{Outcome}
 use Rattle.rules.specs.Sheet.{Row}
-use Rattle.hibernaxo.specs.Told.{sheetTold}
+use Rattle.hibernaxo.specs.Told.{sheet_told}
 use Rattle.hibernaxo.proofs.Rows.{shown}
 use borrow.Author.Rules.{rules}
 use Rattle.hibernaxo.proofs.hibernaxo_sheet.Statement.{statement}
@@ -43,7 +43,7 @@ returns c =
     shown _ read.result.rows read.result.count n c.put-rows.ensures (ap (λ (x : Read). x.0) (rw c.before.before.before.enum_told.given.1 at read.ensures))
 
 returns-2 : tie.Need-returns-2
-returns-2 c = rw c.number_in.ensures (ap (λ (x : Read). sheetTold x.0) (rw c.before.before.answer.given.1 at c.before.before.before.before.before.read-sheet.ensures))
+returns-2 c = rw c.number_in.ensures (ap (λ (x : Read). sheet_told x.0) (rw c.before.before.answer.given.1 at c.before.before.before.before.before.read-sheet.ensures))
 
 pub hibernaxo-sheet-spec : {M : Type 1} → statement M
 hibernaxo-sheet-spec =

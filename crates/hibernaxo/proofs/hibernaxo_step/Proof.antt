@@ -4,7 +4,7 @@ use borrow.Author.Rules.{rules}
 use Rattle.numbered.specs.Numbering.{State}
 use Rattle.numbered.specs.Told.{report}
 use Rattle.step.specs.Step as rule
-use Rattle.step.specs.Told.{stateIn}
+use Rattle.step.specs.Told.{state_in}
 use Rattle.hibernaxo.proofs.States.{step-told}
 use Rattle.hibernaxo.proofs.hibernaxo_step.Statement.{statement}
 use Rattle.hibernaxo.proofs.hibernaxo_step.Tie as tie
@@ -28,7 +28,7 @@ returns : tie.Need-returns
 returns c =
     let a = c.before.before.before.before.before.before.before.before.before.before.before.before.before.before.args in
     let done = c.before.before.before.before.before.before.before.step in
-    step-told (report done.result.answer) (stateIn done.result.state) c.put-reply.ensures c.before.before.put-state.ensures
+    step-told (report done.result.answer) (state_in done.result.state) c.put-reply.ensures c.before.before.put-state.ensures
     (done.ensures ∙ ap (λ (s : State). rule.step a.input.now a.sheet.now a.quota s a.out.now) c.before.before.before.before.before.before.before.before.before.state-in.ensures)
 
 pub hibernaxo-step-spec : {M : Type 1} → statement M

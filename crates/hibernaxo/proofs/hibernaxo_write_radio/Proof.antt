@@ -1,6 +1,6 @@
 -- `hibernaxo::hibernaxo_write_radio` meets its contract: what the writer answered, and the buffer that it left.
 use Rattle.compose.specs.Told.{numbers}
-use Rattle.hibernaxo.specs.Told.{writtenValues}
+use Rattle.hibernaxo.specs.Told.{written_values}
 use Rattle.hibernaxo.proofs.Buffers.{with-buffer}
 use borrow.Author.Rules.{rules}
 use Rattle.hibernaxo.proofs.hibernaxo_write_radio.Statement.{statement}
@@ -16,7 +16,7 @@ same_length : tie.Need-same-length
 same_length c = search rules
 
 returns : tie.Need-returns
-returns c = with-buffer writtenValues (numbers c.before.before.before.before.write.result) _ c.Put-written.ensures c.before.before.before.before.write.ensures
+returns c = with-buffer written_values (numbers c.before.before.before.before.write.result) _ c.Put-written.ensures c.before.before.before.before.write.ensures
 
 pub hibernaxo-write-radio-spec : {M : Type 1} → statement M
 hibernaxo-write-radio-spec =

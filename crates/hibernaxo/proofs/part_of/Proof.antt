@@ -4,13 +4,13 @@ use mathlib.Core.Path.{◌≡◌, ap, ◌∙◌}
 use native.Mathlib.Omega.{arith}
 use lib.ListN.{replicate}
 use lib.Seq.{sets}
-use Rattle.hibernaxo.specs.Told.{numbersFrom}
+use Rattle.hibernaxo.specs.Told.{numbers_from}
 use Rattle.hibernaxo.proofs.States.{from-none, part-next, part-all}
 use Rattle.hibernaxo.proofs.part_of.Statement.{statement}
 use Rattle.hibernaxo.proofs.part_of.Tie as tie
 
 abbrev invariant-loop : tie.invariant-loop
-invariant-loop state at part₀ i₀ part i = (i ≤ 64) × (at ≤ 65) × (part ≡ sets (replicate {A = ℕ} 64 0) 0 (numbersFrom i at state))
+invariant-loop state at part₀ i₀ part i = (i ≤ 64) × (at ≤ 65) × (part ≡ sets (replicate {A = ℕ} 64 0) 0 (numbers_from i at state))
 
 abbrev decreases-loop : tie.decreases-loop
 decreases-loop state at part₀ i₀ part i = 64 - i
@@ -50,7 +50,7 @@ returns c =
     let v = c.before.loop in
     let a = c.before.before.args in
     let e : v.i ≡ 64 = omega (arith, v.invariant.0) in
-    v.invariant.2 ∙ ap (λ (k : ℕ). sets (replicate {A = ℕ} 64 0) 0 (numbersFrom k a.at a.state.now)) e ∙ part-all a.state.now a.at
+    v.invariant.2 ∙ ap (λ (k : ℕ). sets (replicate {A = ℕ} 64 0) 0 (numbers_from k a.at a.state.now)) e ∙ part-all a.state.now a.at
 
 pub part-of-spec : {M : Type 1} → statement M
 part-of-spec =

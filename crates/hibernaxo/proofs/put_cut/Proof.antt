@@ -2,8 +2,8 @@
 use mathlib.Core.Path.{sym, ap}
 use borrow.Author.Rules.{rules}
 use Rattle.fragments.specs.declared.Fragmented.{Fragmented}
-use Rattle.fragments.specs.Told.{cutNumbers}
-use Rattle.hibernaxo.specs.Told.{cutValues}
+use Rattle.fragments.specs.Told.{cut_numbers}
+use Rattle.hibernaxo.specs.Told.{cut_values}
 use Rattle.hibernaxo.proofs.put_cut.Statement.{statement}
 use Rattle.hibernaxo.proofs.put_cut.Tie as tie
 
@@ -17,10 +17,10 @@ number-in-requires : tie.Need-number-in-requires
 number-in-requires c κs = search rules
 
 returns : tie.Need-returns
-returns c = ap (λ (a : Fragmented). cutValues (cutNumbers a)) (sym c.before.before.a.given.1)
+returns c = ap (λ (a : Fragmented). cut_values (cut_numbers a)) (sym c.before.before.a.given.1)
 
 returns-2 : tie.Need-returns-2
-returns-2 c = rw c.number_in.ensures (ap (λ (a : Fragmented). cutValues (cutNumbers a)) (sym c.before.before.before.a2.given.1))
+returns-2 c = rw c.number_in.ensures (ap (λ (a : Fragmented). cut_values (cut_numbers a)) (sym c.before.before.before.a2.given.1))
 
 pub put-cut-spec : {M : Type 1} → statement M
 put-cut-spec = tie.close (tie.spec enum-known-a enum-known-a-2 number-in-requires returns returns-2)

@@ -3,7 +3,7 @@ use mathlib.Core.Path.{sym, ap}
 use borrow.Author.Rules.{rules}
 use Rattle.numbered.specs.declared.Answer.{Answer}
 use Rattle.numbered.specs.Told.{report}
-use Rattle.hibernaxo.specs.Told.{reportValues}
+use Rattle.hibernaxo.specs.Told.{report_values}
 use Rattle.hibernaxo.proofs.put_reply.Statement.{statement}
 use Rattle.hibernaxo.proofs.put_reply.Tie as tie
 
@@ -17,10 +17,10 @@ number-in-requires : tie.Need-number-in-requires
 number-in-requires c κs = search rules
 
 returns : tie.Need-returns
-returns c = ap (λ (a : Answer). reportValues (report a)) (sym c.before.before.a.given.1)
+returns c = ap (λ (a : Answer). report_values (report a)) (sym c.before.before.a.given.1)
 
 returns-2 : tie.Need-returns-2
-returns-2 c = rw c.number_in.ensures (ap (λ (a : Answer). reportValues (report a)) (sym c.before.before.before.a2.given.1))
+returns-2 c = rw c.number_in.ensures (ap (λ (a : Answer). report_values (report a)) (sym c.before.before.before.a2.given.1))
 
 pub put-reply-spec : {M : Type 1} → statement M
 put-reply-spec = tie.close (tie.spec enum-known-a enum-known-a-2 number-in-requires returns returns-2)

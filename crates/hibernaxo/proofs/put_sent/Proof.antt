@@ -2,8 +2,8 @@
 use mathlib.Core.Path.{sym, ap}
 use borrow.Author.Rules.{rules}
 use Rattle.capture.specs.declared.CaptureWritten.{CaptureWritten}
-use Rattle.capture.specs.Told.{numbersWritten}
-use Rattle.hibernaxo.specs.Told.{sentValues}
+use Rattle.capture.specs.Told.{numbers_written}
+use Rattle.hibernaxo.specs.Told.{sent_values}
 use Rattle.hibernaxo.proofs.put_sent.Statement.{statement}
 use Rattle.hibernaxo.proofs.put_sent.Tie as tie
 
@@ -17,10 +17,10 @@ number-in-requires : tie.Need-number-in-requires
 number-in-requires c κs = search rules
 
 returns : tie.Need-returns
-returns c = ap (λ (a : CaptureWritten). sentValues (numbersWritten a)) (sym c.before.before.a.given.1)
+returns c = ap (λ (a : CaptureWritten). sent_values (numbers_written a)) (sym c.before.before.a.given.1)
 
 returns-2 : tie.Need-returns-2
-returns-2 c = rw c.number_in.ensures (ap (λ (a : CaptureWritten). sentValues (numbersWritten a)) (sym c.before.before.before.a2.given.1))
+returns-2 c = rw c.number_in.ensures (ap (λ (a : CaptureWritten). sent_values (numbers_written a)) (sym c.before.before.before.a2.given.1))
 
 pub put-sent-spec : {M : Type 1} → statement M
 put-sent-spec = tie.close (tie.spec enum-known-a enum-known-a-2 number-in-requires returns returns-2)

@@ -9,10 +9,10 @@ use Rattle.rules.specs.Outcome.{good}
 use Rattle.ids.specs.Line.{Item}
 use Rattle.ids.specs.Reader.{item_at}
 use Rattle.ids.specs.Claims.{Fits}
-use Rattle.ids.specs.Parts.{toldItem, rest_at, read_on, heldRanges, lineTold}
+use Rattle.ids.specs.Parts.{told_item, rest_at, read_on, held_ranges, line_told}
 use Rattle.ids.proofs.Ranges.{fits-is}
 use Rattle.ids.proofs.Steps.{item-inside}
-use Rattle.ids.proofs.Reading.{held_next, heard, item-broken, the-33rd, unfit, item-kept, line-ended, no-comma, a-comma}
+use Rattle.ids.proofs.Reading.{held_next, heard, item-broken, the_33rd, unfit, item-kept, line-ended, no_comma, a-comma}
 use borrow.Fn.Kinds.{In}
 use borrow.Fn.PlainCycle.{Measures, is, falls, and}
 use Rattle.ids.proofs.read_item.Reads as read-item
@@ -75,7 +75,7 @@ module _ (t : ℕ) (c : read-item-lts.After-known-told2 (item-claims t) (read-it
   it = record { place = c.before.before.before.before.before.before.args.at; first = c.before.first.given.0.0; last = c.before.first.given.0.1.0 }
 
   found : item_at c.before.before.before.before.before.before.args.at (drop c.before.before.before.before.before.before.args.at c.before.before.before.before.before.before.args.s.now) ≡ good (it, c.before.first.given.0.1.1.0)
-  found = sym c.before.before.before.item-at.ensures ∙ ap (toldItem c.before.before.before.before.before.before.args.at) c.before.first.given.1
+  found = sym c.before.before.before.item-at.ensures ∙ ap (told_item c.before.before.before.before.before.before.args.at) c.before.first.given.1
 
   inside : (1 ≤ c.before.first.given.0.1.1.0) × (c.before.before.before.before.before.before.args.at + c.before.first.given.0.1.1.0 ≤ length c.before.before.before.before.before.before.args.s.now)
   inside = item-inside c.before.before.before.before.before.before.args.s.now c.before.before.before.before.before.before.args.at it _ found c.before.before.before.before.before.before.requires.1.0
@@ -104,7 +104,7 @@ module _ (t : ℕ) where
   read-item-fault-requires c κs = (inside t c.before).1
 
   read-item-returns : read-item-lts.Need-returns (item-claims t) (read-item-at t) read-item.Post
-  read-item-returns c = c.fault.ensures _ ∙ the-33rd _ _ c.before.before.before.before.before.before.before.before.requires.1.1 c.before.before.before.before.before.before.before.before.args.s.now c.before.before.before.before.before.before.before.before.args.at _ _ _ (found t c.before.before) c.before.if1.true
+  read-item-returns c = c.fault.ensures _ ∙ the_33rd _ _ c.before.before.before.before.before.before.before.before.requires.1.1 c.before.before.before.before.before.before.before.before.args.s.now c.before.before.before.before.before.before.before.before.args.at _ _ _ (found t c.before.before) c.before.if1.true
 
   read-item-fits-requires : read-item-lts.Need-fits-requires (item-claims t) (read-item-at t) read-item.Post
   read-item-fits-requires c κs = search rules
@@ -133,7 +133,7 @@ module _ (t : ℕ) where
       (omega (arith, k.0, k.1), (k.1, rw c.before.before.before.put-range.ensures (held_next _ _ c.before.before.before.before.before.before.before.before.before.before.before.before.before.before.requires.1.1 (omega (arith, c.before.before.before.before.before.before.before.before.before.before.before.before.before.before.requires.1.1.few)) _ _)))
 
   read-item-returns-3 : read-item-lts.Need-returns-3 (item-claims t) (read-item-at t) read-item.Post
-  read-item-returns-3 c = heard c.before.before.before.before.before.before.before.args.numbers.now c.refuse.ensures (item-broken _ _ c.before.before.before.before.before.before.before.requires.1.1 c.before.before.before.before.before.before.before.args.s.now c.before.before.before.before.before.before.before.args.at (sym c.before.before.before.before.item-at.ensures ∙ ap (toldItem c.before.before.before.before.before.before.before.args.at) c.before.before.q.given.1))
+  read-item-returns-3 c = heard c.before.before.before.before.before.before.before.args.numbers.now c.refuse.ensures (item-broken _ _ c.before.before.before.before.before.before.before.requires.1.1 c.before.before.before.before.before.before.before.args.s.now c.before.before.before.before.before.before.before.args.at (sym c.before.before.before.before.item-at.ensures ∙ ap (told_item c.before.before.before.before.before.before.before.args.at) c.before.before.q.given.1))
 
   read-item-same-length : read-item-lts.Need-same-length (item-claims t) (read-item-at t) read-item.Post
   read-item-same-length c = c.before.before.read-list.auto.1.1.0 ∙ c.before.before.before.before.before.before.put-range.auto.0
@@ -153,7 +153,7 @@ module _ (t : ℕ) where
   read-list-refuse-requires c κs = search rules
 
   read-list-returns-2 : read-list-lts.Need-returns-2 (list-claims t) (read-list-at t) read-list.Post
-  read-list-returns-2 c = heard c.before.before.before.before.before.before.args.numbers.now c.refuse.ensures (no-comma _ _ c.before.before.before.before.before.before.requires.1.1 c.before.before.before.before.before.before.args.s.now c.before.before.before.before.before.before.args.at (omega (arith, c.before.before.before.before.before.before.requires.1.0)) c.before.if2.true)
+  read-list-returns-2 c = heard c.before.before.before.before.before.before.args.numbers.now c.refuse.ensures (no_comma _ _ c.before.before.before.before.before.before.requires.1.1 c.before.before.before.before.before.before.args.s.now c.before.before.before.before.before.before.args.at (omega (arith, c.before.before.before.before.before.before.requires.1.0)) c.before.if2.true)
 
   read-list-add-read-item : read-list-lts.Need-overflow-add-read-item (list-claims t) (read-list-at t) read-list.Post
   read-list-add-read-item c = omega arith
@@ -162,7 +162,7 @@ module _ (t : ℕ) where
   read-list-read-item-requires c κs = (omega (arith, c.before.before.before.before.before.before.requires.1.0), (omega (arith, c.before.before.before.before.before.before.requires.1.0), c.before.before.before.before.before.before.requires.1.1))
 
   -- what the item reader answers behind the comma
-  behind-comma : (c : read-list-lts.After-read-item (list-claims t) (read-list-at t) read-list.Post) → lineTold c.read-item.result c.read-item.new.1.1.0 ≡ read_on (take c.before.before.before.before.before.before.before.args.n (heldRanges c.before.before.before.before.before.before.before.args.numbers.now)) (rest_at c.before.before.before.before.before.before.before.args.at (drop c.before.before.before.before.before.before.before.args.at c.before.before.before.before.before.before.before.args.s.now))
+  behind-comma : (c : read-list-lts.After-read-item (list-claims t) (read-list-at t) read-list.Post) → line_told c.read-item.result c.read-item.new.1.1.0 ≡ read_on (take c.before.before.before.before.before.before.before.args.n (held_ranges c.before.before.before.before.before.before.before.args.numbers.now)) (rest_at c.before.before.before.before.before.before.before.args.at (drop c.before.before.before.before.before.before.before.args.at c.before.before.before.before.before.before.before.args.s.now))
   behind-comma c = c.read-item.ensures ∙ a-comma _ _ c.before.before.before.before.before.before.before.requires.1.1 c.before.before.before.before.before.before.before.args.s.now c.before.before.before.before.before.before.before.args.at (omega (arith, c.before.before.before.before.before.before.before.requires.1.0)) c.before.before.if2.false
 
   read-list-enum-known-count : read-list-lts.Need-enum-known-count (list-claims t) (read-list-at t) read-list.Post

@@ -6,14 +6,14 @@ use native.Mathlib.Omega.{arith}
 use borrow.Author.Rules.{rules}
 use lib.ListN.{length, take, length-set}
 use lib.Seq.{take_all, take-suc}
-use Rattle.ids.specs.Told.{rangesIn}
-use Rattle.ids.specs.Parts.{noIds}
+use Rattle.ids.specs.Told.{ranges_in}
+use Rattle.ids.specs.Parts.{no_ids}
 use Rattle.ids.proofs.Ends.{many, ranges_more}
 use Rattle.ids.proofs.ends_of.Statement.{statement}
 use Rattle.ids.proofs.ends_of.Tie as tie
 
 abbrev invariant-loop : tie.invariant-loop
-invariant-loop ranges ends₀ i₀ ends i = (i ≤ 32) × (length ranges ≡ 32) × (length ends ≡ 64) × (take i (rangesIn 32 ends) ≡ take i ranges)
+invariant-loop ranges ends₀ i₀ ends i = (i ≤ 32) × (length ranges ≡ 32) × (length ends ≡ 64) × (take i (ranges_in 32 ends) ≡ take i ranges)
 
 abbrev decreases-loop : tie.decreases-loop
 decreases-loop ranges ends₀ i₀ ends i = 32 - i
@@ -43,12 +43,12 @@ loop-again : tie.Need-loop-preserved invariant-loop decreases-loop
 loop-again c =
     let v = c.before.before.before.before.before.loop in
     let h : v.i < 32 = omega arith in
-    (omega arith, v.invariant.1, rw (c.before.put-range.ensures, length-set, length-set) v.invariant.2, rw c.before.put-range.ensures (ranges_more v.i 32 v.ends _ _ h (omega (arith, v.invariant.2)) ∙ rw (v.invariant.3, add-one v.i) (sym (take-suc _ v.i noIds (omega (arith, v.invariant.1))))))
+    (omega arith, v.invariant.1, rw (c.before.put-range.ensures, length-set, length-set) v.invariant.2, rw c.before.put-range.ensures (ranges_more v.i 32 v.ends _ _ h (omega (arith, v.invariant.2)) ∙ rw (v.invariant.3, add-one v.i) (sym (take-suc _ v.i no_ids (omega (arith, v.invariant.1))))))
 
 returns : tie.Need-returns invariant-loop decreases-loop
 returns c =
     let v = c.before.loop in
-    sym (take_all v.i (rangesIn 32 v.ends) (omega (arith, many 32 v.ends))) ∙ v.invariant.3 ∙ take_all v.i _ (omega (arith, v.invariant.1))
+    sym (take_all v.i (ranges_in 32 v.ends) (omega (arith, many 32 v.ends))) ∙ v.invariant.3 ∙ take_all v.i _ (omega (arith, v.invariant.1))
 
 pub ends-of-spec : {M : Type 1} → statement M
 ends-of-spec =

@@ -4,8 +4,8 @@ use mathlib.Core.Path.{refl, sym, ap, ◌∙◌}
 use Prim.Native.Nat.{◌+◌, ◌-◌}
 use native.Mathlib.Omega.{arith}
 use lib.ListN.{length}
-use Rattle.ids.specs.Parts.{toldItem}
-use Rattle.ids.proofs.Steps.{Formed, form-odd, form-bad, form-next, form-end}
+use Rattle.ids.specs.Parts.{told_item}
+use Rattle.ids.proofs.Steps.{Formed, form_odd, form-bad, form-next, form-end}
 use Rattle.ids.proofs.form_at.Statement.{statement}
 use Rattle.ids.proofs.form_at.Tie as tie
 
@@ -22,7 +22,7 @@ shared-slice-read-if1 : tie.Need-shared-slice-read-if1 invariant-loop decreases-
 shared-slice-read-if1 c = omega arith
 
 returns : tie.Need-returns invariant-loop decreases-loop
-returns c = form-odd _ _ _ c.before.before.before.loop.invariant (search rules) c.if1.true
+returns c = form_odd _ _ _ c.before.before.before.loop.invariant (search rules) c.if1.true
 
 add-item-at : tie.Need-overflow-add-item-at invariant-loop decreases-loop
 add-item-at c = omega arith
@@ -34,7 +34,7 @@ enum-known-q : tie.Need-enum-known-q invariant-loop decreases-loop
 enum-known-q c = search rules
 
 returns-2 : tie.Need-returns-2 invariant-loop decreases-loop
-returns-2 c = form-bad _ _ _ c.before.before.before.before.before.before.before.loop.invariant (search rules) c.before.before.before.before.if1.false (sym c.before.before.before.item-at.ensures ∙ ap (toldItem (c.before.before.before.before.before.before.before.loop.at + 1)) c.before.q.given.1)
+returns-2 c = form-bad _ _ _ c.before.before.before.before.before.before.before.loop.invariant (search rules) c.before.before.before.before.if1.false (sym c.before.before.before.item-at.ensures ∙ ap (told_item (c.before.before.before.before.before.before.before.loop.at + 1)) c.before.q.given.1)
 
 enum-known-size : tie.Need-enum-known-size invariant-loop decreases-loop
 enum-known-size c = search rules
@@ -43,13 +43,13 @@ add_at : tie.Need-overflow-add-at invariant-loop decreases-loop
 add_at c = omega arith
 
 add-at-2 : tie.Need-overflow-add-at-2 invariant-loop decreases-loop
-add-at-2 c = let n = form-next _ _ _ c.before.before.before.before.before.before.before.loop.invariant (search rules) c.before.before.before.before.if1.false (sym c.before.before.before.item-at.ensures ∙ ap (toldItem (c.before.before.before.before.before.before.before.loop.at + 1)) c.before.size.given.1) in omega (arith, n.1.inside)
+add-at-2 c = let n = form-next _ _ _ c.before.before.before.before.before.before.before.loop.invariant (search rules) c.before.before.before.before.if1.false (sym c.before.before.before.item-at.ensures ∙ ap (told_item (c.before.before.before.before.before.before.before.loop.at + 1)) c.before.size.given.1) in omega (arith, n.1.inside)
 
 loop-less : tie.Need-loop-smaller invariant-loop decreases-loop
-loop-less c = let n = form-next _ _ _ c.before.before.before.before.before.before.before.loop.invariant (search rules) c.before.before.before.before.if1.false (sym c.before.before.before.item-at.ensures ∙ ap (toldItem (c.before.before.before.before.before.before.before.loop.at + 1)) c.before.size.given.1) in omega (arith, n.1.inside)
+loop-less c = let n = form-next _ _ _ c.before.before.before.before.before.before.before.loop.invariant (search rules) c.before.before.before.before.if1.false (sym c.before.before.before.item-at.ensures ∙ ap (told_item (c.before.before.before.before.before.before.before.loop.at + 1)) c.before.size.given.1) in omega (arith, n.1.inside)
 
 loop-again : tie.Need-loop-preserved invariant-loop decreases-loop
-loop-again c = (form-next _ _ _ c.before.before.before.before.before.before.before.loop.invariant (search rules) c.before.before.before.before.if1.false (sym c.before.before.before.item-at.ensures ∙ ap (toldItem (c.before.before.before.before.before.before.before.loop.at + 1)) c.before.size.given.1)).1
+loop-again c = (form-next _ _ _ c.before.before.before.before.before.before.before.loop.invariant (search rules) c.before.before.before.before.if1.false (sym c.before.before.before.item-at.ensures ∙ ap (told_item (c.before.before.before.before.before.before.before.loop.at + 1)) c.before.size.given.1)).1
 
 returns-3 : tie.Need-returns-3 invariant-loop decreases-loop
 returns-3 c = form-end _ _ _ c.before.loop.invariant (search rules)

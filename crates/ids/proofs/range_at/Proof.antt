@@ -1,7 +1,7 @@
 -- `ids::range_at` meets its contract: both ends are among the 64.
 use borrow.Author.Rules.{rules}
 use mathlib.Core.Path.{sym}
-use Rattle.ids.proofs.Ends.{the-range}
+use Rattle.ids.proofs.Ends.{the_range}
 use Rattle.ids.proofs.range_at.Statement.{statement}
 use Rattle.ids.proofs.range_at.Tie as tie
 
@@ -24,7 +24,7 @@ shared-slice-read-t10 : tie.Need-shared-slice-read-t10
 shared-slice-read-t10 c = search rules
 
 returns : tie.Need-returns
-returns c = sym (the-range 32 _ _ _ (search rules))
+returns c = sym (the_range 32 _ _ _ (search rules))
 
 pub range-at-spec : {M : Type 1} → statement M
 range-at-spec =

@@ -6,14 +6,14 @@ use native.Mathlib.Omega.{arith}
 use borrow.Author.Rules.{rules}
 use lib.ListN.{length, take, length-set}
 use lib.Seq.{take_all, take-suc, take-suc-set}
-use Rattle.ids.specs.Told.{rangesIn}
-use Rattle.ids.specs.Parts.{noIds}
+use Rattle.ids.specs.Told.{ranges_in}
+use Rattle.ids.specs.Parts.{no_ids}
 use Rattle.ids.proofs.Ends.{many}
 use Rattle.ids.proofs.ranges_of.Statement.{statement}
 use Rattle.ids.proofs.ranges_of.Tie as tie
 
 abbrev invariant-loop : tie.invariant-loop
-invariant-loop ends ranges₀ i₀ ranges i = (i ≤ 32) × (length ranges ≡ 32) × (take i ranges ≡ take i (rangesIn 32 ends))
+invariant-loop ends ranges₀ i₀ ranges i = (i ≤ 32) × (length ranges ≡ 32) × (take i ranges ≡ take i (ranges_in 32 ends))
 
 abbrev decreases-loop : tie.decreases-loop
 decreases-loop ends ranges₀ i₀ ranges i = 32 - i
@@ -42,15 +42,15 @@ loop-less c = omega arith
 loop-again : tie.Need-loop-preserved invariant-loop decreases-loop
 loop-again c =
     let v = c.before.before.loop in
-    let all = rangesIn 32 c.before.before.before.before.before.args.ends.now in
+    let all = ranges_in 32 c.before.before.before.before.before.args.ends.now in
     let h : v.i < 32 = c.before.loop-test.true in
     let n : v.i < length all = omega (arith, h, many 32 c.before.before.before.before.before.args.ends.now) in
-    (omega arith, rw length-set v.invariant.1, rw (add-one v.i) (take-suc-set v.ranges v.i c.range_at.result (omega (arith, h, v.invariant.1)) ∙ rw (v.invariant.2, c.range_at.ensures) (sym (take-suc all v.i noIds n))))
+    (omega arith, rw length-set v.invariant.1, rw (add-one v.i) (take-suc-set v.ranges v.i c.range_at.result (omega (arith, h, v.invariant.1)) ∙ rw (v.invariant.2, c.range_at.ensures) (sym (take-suc all v.i no_ids n))))
 
 returns : tie.Need-returns invariant-loop decreases-loop
 returns c =
     let v = c.before.loop in
-    let all = rangesIn 32 c.before.before.before.before.args.ends.now in
+    let all = ranges_in 32 c.before.before.before.before.args.ends.now in
     sym (take_all v.i v.ranges (omega (arith, v.invariant.1))) ∙ v.invariant.2 ∙ take_all v.i all (omega (arith, many 32 c.before.before.before.before.args.ends.now))
 
 pub ranges-of-spec : {M : Type 1} → statement M

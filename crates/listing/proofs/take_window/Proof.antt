@@ -1,7 +1,7 @@
 -- `listing::take_window` meets its contract: what is handed over lies in the window.
 use Rattle.std.proofs.Common.{sym, ap, ◌∙◌, arith, length-take, length-take-le, rules}
-use Rattle.windows.specs.Told.{toldHanded}
-use Rattle.windows.proofs.Windows.{hands-over}
+use Rattle.windows.specs.Told.{told_handed}
+use Rattle.windows.proofs.Windows.{hands_over}
 use Rattle.listing.proofs.take_window.Statement.{statement}
 use Rattle.listing.proofs.take_window.Tie as tie
 
@@ -17,7 +17,7 @@ enum-known-handed-2 c = search rules
 slice-aggregate-take-part : tie.Need-slice-aggregate-take-part
 slice-aggregate-take-part c =
     let s = c.before.before.before.before.before.before.before in
-    sym (length-take-le _ _ (hands-over s.args.goes_on s.args.window.now _ (sym (ap toldHanded (sym c.before.before.handed2.given.1) ∙ c.before.before.before.before.hand-over.ensures))).inside)
+    sym (length-take-le _ _ (hands_over s.args.goes_on s.args.window.now _ (sym (ap told_handed (sym c.before.before.handed2.given.1) ∙ c.before.before.before.before.hand-over.ensures))).inside)
 
 take-part-requires : tie.Need-take-part-requires
 take-part-requires c κs =

@@ -1,8 +1,8 @@
 -- `message::checked_run` meets its contract: a law for each `return`.
 use mathlib.Core.Path.{sym, ap, ◌∙◌}
 use borrow.Author.Rules.{rules}
-use Rattle.message.proofs.Fronts.{large, behind, seven-there, not-seven-there, not-nine-there, nine-there}
-use Rattle.message.specs.Answers.{toldGate, toldCount}
+use Rattle.message.proofs.Fronts.{large, behind, seven-there, not_seven_there, not_nine_there, nine-there}
+use Rattle.message.specs.Answers.{told_gate, told_count}
 use Rattle.message.proofs.checked_run.Statement.{statement}
 use Rattle.message.proofs.checked_run.Tie as tie
 
@@ -37,7 +37,7 @@ enum-known-r : tie.Need-enum-known-r
 enum-known-r c = search rules
 
 returns-3 : tie.Need-returns-3
-returns-3 c = not-nine-there _ _ (search rules) _ (search rules) _ _ c.before.before.before.before.header_of.ensures (ap toldCount (sym c.before.before.before.before.before.before.found.given.1) ∙ c.before.before.before.before.before.before.before.before.before.run-here.ensures) (ap toldGate (sym c.before.r.given.1) ∙ c.before.before.before.checks-eight-and-nine.ensures)
+returns-3 c = not_nine_there _ _ (search rules) _ (search rules) _ _ c.before.before.before.before.header_of.ensures (ap told_count (sym c.before.before.before.before.before.before.found.given.1) ∙ c.before.before.before.before.before.before.before.before.before.run-here.ensures) (ap told_gate (sym c.before.r.given.1) ∙ c.before.before.before.checks-eight-and-nine.ensures)
 
 enum_told : tie.Need-enum-told
 enum_told c = search rules
@@ -46,10 +46,10 @@ enum-told-2 : tie.Need-enum-told-2
 enum-told-2 c = search rules
 
 returns-4 : tie.Need-returns-4
-returns-4 c = nine-there _ _ (search rules) _ (search rules) _ _ c.before.before.before.header_of.ensures (ap toldCount (sym c.before.before.before.before.before.found.given.1) ∙ c.before.before.before.before.before.before.before.before.run-here.ensures) (ap toldGate (sym c.enum_told.given.1) ∙ c.before.before.checks-eight-and-nine.ensures)
+returns-4 c = nine-there _ _ (search rules) _ (search rules) _ _ c.before.before.before.header_of.ensures (ap told_count (sym c.before.before.before.before.before.found.given.1) ∙ c.before.before.before.before.before.before.before.before.run-here.ensures) (ap told_gate (sym c.enum_told.given.1) ∙ c.before.before.checks-eight-and-nine.ensures)
 
 returns-5 : tie.Need-returns-5
-returns-5 c = ap toldCount c.enum-told2.given.1 ∙ not-seven-there _ _ (search rules) _ (search rules) (ap toldCount (sym c.enum-told2.given.1) ∙ c.before.before.before.run-here.ensures)
+returns-5 c = ap told_count c.enum-told2.given.1 ∙ not_seven_there _ _ (search rules) _ (search rules) (ap told_count (sym c.enum-told2.given.1) ∙ c.before.before.before.run-here.ensures)
 
 returns-6 : tie.Need-returns-6
 returns-6 c = seven-there _ _ (search rules) _ (search rules) c.before.run-here.ensures

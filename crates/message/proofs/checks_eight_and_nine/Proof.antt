@@ -2,7 +2,7 @@
 use mathlib.Core.Path.{ap, ◌∙◌}
 use borrow.Author.Rules.{rules}
 use Rattle.message.proofs.Messages.{fragment, standard, fits}
-use Rattle.message.specs.Answers.{toldGate}
+use Rattle.message.specs.Answers.{told_gate}
 use Rattle.message.proofs.checks_eight_and_nine.Statement.{statement}
 use Rattle.message.proofs.checks_eight_and_nine.Tie as tie
 
@@ -10,7 +10,7 @@ shut-requires : tie.Need-shut-requires
 shut-requires c κs = search rules
 
 returns : tie.Need-returns
-returns c = ap toldGate c.shut.ensures ∙ fragment _ _ c.before.if1.true
+returns c = ap told_gate c.shut.ensures ∙ fragment _ _ c.before.if1.true
 
 payload-start-requires : tie.Need-payload-start-requires
 payload-start-requires c κs = search rules
@@ -25,7 +25,7 @@ shut-requires-2 : tie.Need-shut-requires-2
 shut-requires-2 c κs = search rules
 
 returns-2 : tie.Need-returns-2
-returns-2 c = ap toldGate c.shut2.ensures ∙ standard _ _ c.before.before.before.before.before.before.if1.false _ _ c.before.before.before.before.before.payload-start.ensures.0 c.before.before.before.before.wide32.ensures.0 _ c.before.before.one-if-bytes.ensures c.before.if2.true
+returns-2 c = ap told_gate c.shut2.ensures ∙ standard _ _ c.before.before.before.before.before.before.if1.false _ _ c.before.before.before.before.before.payload-start.ensures.0 c.before.before.before.before.wide32.ensures.0 _ c.before.before.one-if-bytes.ensures c.before.if2.true
 
 returns-3 : tie.Need-returns-3
 returns-3 c = fits _ _ c.before.before.before.before.before.if1.false _ _ c.before.before.before.before.payload-start.ensures.0 c.before.before.before.wide32.ensures.0 _ c.before.one-if-bytes.ensures c.if2.false

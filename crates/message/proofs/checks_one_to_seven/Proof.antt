@@ -4,8 +4,8 @@ use Prim.Native.Nat.{◌-◌}
 use native.Mathlib.Omega.{arith}
 use borrow.Author.Rules.{rules}
 use lib.ListN.{drop, length-take, length-drop}
-use Rattle.message.proofs.Headers.{gate-shut, gate-open, run-behind}
-use Rattle.message.specs.Answers.{head_of, toldGate}
+use Rattle.message.proofs.Headers.{gate_shut, gate_open, run-behind}
+use Rattle.message.specs.Answers.{head_of, told_gate}
 use Rattle.rules.proofs.Passed.{Sound}
 use Rattle.message.proofs.checks_one_to_seven.Statement.{statement}
 use Rattle.message.proofs.checks_one_to_seven.Tie as tie
@@ -24,7 +24,7 @@ payload-start-requires c κs = search rules
 
 -- checks 1 to 6 passed
 through : (c : tie.After-enum-told) → Sound c.before.before.before.before.args.m.now (head_of c.before.before.before.before.args.h)
-through c = gate-open _ _ _ (ap toldGate (sym c.enum_told.given.1) ∙ c.before.before.checks-one-to-six.ensures)
+through c = gate_open _ _ _ (ap told_gate (sym c.enum_told.given.1) ∙ c.before.before.checks-one-to-six.ensures)
 
 sub-run-of : tie.Need-overflow-sub-run-of
 sub-run-of c = search rules
@@ -42,10 +42,10 @@ run-of-requires : tie.Need-run-of-requires
 run-of-requires c κs = let w = through c.before.before in omega (arith, w.long, length-take (c.before.payload-start.result - 24) (drop 24 c.before.before.before.before.before.before.args.m.now), length-drop 24 c.before.before.before.before.before.before.args.m.now)
 
 returns : tie.Need-returns
-returns c = gate-shut _ _ _ (ap toldGate (sym c.before.r.given.1) ∙ c.before.before.before.checks-one-to-six.ensures)
+returns c = gate_shut _ _ _ (ap told_gate (sym c.before.r.given.1) ∙ c.before.before.before.checks-one-to-six.ensures)
 
 returns-2 : tie.Need-returns-2
-returns-2 c = run-behind _ _ _ _ c.before.before.payload-start.ensures.0 (ap toldGate (sym c.before.before.before.enum_told.given.1) ∙ c.before.before.before.before.before.checks-one-to-six.ensures) c.run-of.ensures
+returns-2 c = run-behind _ _ _ _ c.before.before.payload-start.ensures.0 (ap told_gate (sym c.before.before.before.enum_told.given.1) ∙ c.before.before.before.before.before.checks-one-to-six.ensures) c.run_of_lem.ensures
 
 pub checks-one-to-seven-spec : {M : Type 1} → statement M
 checks-one-to-seven-spec =

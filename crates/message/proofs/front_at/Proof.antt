@@ -2,7 +2,7 @@
 use mathlib.Core.Path.{sym, ap, ◌∙◌}
 use borrow.Author.Rules.{rules}
 use Rattle.message.proofs.Fronts.{front-bad, front-good}
-use Rattle.message.specs.Answers.{toldCount}
+use Rattle.message.specs.Answers.{told_count}
 use Rattle.message.proofs.front_at.Statement.{statement}
 use Rattle.message.proofs.front_at.Tie as tie
 
@@ -19,10 +19,10 @@ header-in-requires : tie.Need-header-in-requires
 header-in-requires c κs = search rules
 
 returns : tie.Need-returns
-returns c = front-bad _ _ (ap toldCount (sym c.before.r.given.1) ∙ c.before.before.before.front-run.ensures)
+returns c = front-bad _ _ (ap told_count (sym c.before.r.given.1) ∙ c.before.before.before.front-run.ensures)
 
 returns-2 : tie.Need-returns-2
-returns-2 c = front-good _ _ _ _ (ap toldCount (sym c.before.before.n.given.1) ∙ c.before.before.before.before.front-run.ensures) c.header-in.ensures
+returns-2 c = front-good _ _ _ _ (ap told_count (sym c.before.before.n.given.1) ∙ c.before.before.before.before.front-run.ensures) c.header-in.ensures
 
 pub front-at-spec : {M : Type 1} → statement M
 front-at-spec =

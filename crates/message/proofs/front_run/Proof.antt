@@ -2,7 +2,7 @@
 use mathlib.Core.Path.{sym, ap, ◌∙◌}
 use borrow.Author.Rules.{rules}
 use Rattle.message.proofs.Fronts.{front-is}
-use Rattle.message.specs.Answers.{toldCount}
+use Rattle.message.specs.Answers.{told_count}
 use Rattle.message.proofs.front_run.Statement.{statement}
 use Rattle.message.proofs.front_run.Tie as tie
 
@@ -22,10 +22,10 @@ enum-known-n : tie.Need-enum-known-n
 enum-known-n c = search rules
 
 returns-2 : tie.Need-returns-2
-returns-2 c = ap toldCount (sym c.before.r.given.1) ∙ c.before.before.before.checked-run.ensures ∙ front-is _ _
+returns-2 c = ap told_count (sym c.before.r.given.1) ∙ c.before.before.before.checked-run.ensures ∙ front-is _ _
 
 returns-3 : tie.Need-returns-3
-returns-3 c = ap toldCount (sym c.before.n.given.1) ∙ c.before.before.before.checked-run.ensures ∙ front-is _ _
+returns-3 c = ap told_count (sym c.before.n.given.1) ∙ c.before.before.before.checked-run.ensures ∙ front-is _ _
 
 pub front-run-spec : {M : Type 1} → statement M
 front-run-spec =

@@ -1,7 +1,7 @@
 -- `message::header_of` meets its contract: each number is read at its place.
 use mathlib.Core.Path.{◌∙◌}
 use borrow.Author.Rules.{rules}
-use Rattle.message.proofs.Checks.{header-numbers, no-numbers}
+use Rattle.message.proofs.Checks.{header-numbers, no_numbers}
 use Rattle.message.proofs.header_of.Statement.{statement}
 use Rattle.message.proofs.header_of.Tie as tie
 
@@ -9,7 +9,7 @@ no-header-requires : tie.Need-no-header-requires
 no-header-requires c κs = search rules
 
 returns : tie.Need-returns
-returns c = c.no_Header.ensures ∙ no-numbers _ _ (search rules)
+returns c = c.no_Header.ensures ∙ no_numbers _ _ (search rules)
 
 byte-at-requires : tie.Need-byte-at-requires
 byte-at-requires c κs = search rules

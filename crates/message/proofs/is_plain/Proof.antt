@@ -2,7 +2,7 @@
 use mathlib.Core.Path.{sym, ap, ◌∙◌}
 use borrow.Author.Rules.{rules}
 use Rattle.message.proofs.Fronts.{plain}
-use Rattle.message.specs.Answers.{toldGate}
+use Rattle.message.specs.Answers.{told_gate}
 use Rattle.message.proofs.is_plain.Statement.{statement}
 use Rattle.message.proofs.is_plain.Tie as tie
 
@@ -40,7 +40,7 @@ enum-told-4 : tie.Need-enum-told-4
 enum-told-4 c = search rules
 
 returns-4 : tie.Need-returns-4
-returns-4 c = λ z. plain _ _ _ _ c.before.before.before.before.before.before.before.before.before.tested-in.ensures (search rules) (ap toldGate (sym c.before.before.before.before.enum-told2.given.1) ∙ c.before.before.before.before.before.before.checks-one-to-six.ensures) c.before.before.before.header_of.ensures (ap toldGate (sym c.enum-told3.given.1) ∙ c.before.before.checks-eight-and-nine.ensures)
+returns-4 c = λ z. plain _ _ _ _ c.before.before.before.before.before.before.before.before.before.tested-in.ensures (search rules) (ap told_gate (sym c.before.before.before.before.enum-told2.given.1) ∙ c.before.before.before.before.before.before.checks-one-to-six.ensures) c.before.before.before.header_of.ensures (ap told_gate (sym c.enum-told3.given.1) ∙ c.before.before.checks-eight-and-nine.ensures)
 
 returns-5 : tie.Need-returns-5
 returns-5 c = λ z. absurd (search rules)

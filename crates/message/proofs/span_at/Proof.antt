@@ -4,9 +4,9 @@ use mathlib.Core.Logic.{⊎_elim}
 use native.Mathlib.Omega.{arith}
 use borrow.Author.Rules.{rules}
 use Rattle.rules.specs.Outcome.{good}
-use Rattle.message.proofs.Fronts.{front-is, front-bad, entered, front-stopped}
+use Rattle.message.proofs.Fronts.{front-is, front-bad, entered, front_stopped}
 use Rattle.message.proofs.Messages.{span-bad}
-use Rattle.message.specs.Answers.{toldCount, frontRun, span_of}
+use Rattle.message.specs.Answers.{told_count, front_run, span_of}
 use Rattle.message.proofs.span_at.Statement.{statement}
 use Rattle.message.proofs.span_at.Tie as tie
 
@@ -20,7 +20,7 @@ enum-known-r : tie.Need-enum-known-r
 enum-known-r c = search rules
 
 returns : tie.Need-returns
-returns c = span-bad (front-stopped _ _ (front-bad _ _ (ap toldCount (sym c.before.r.given.1) ∙ c.before.before.before.checked-run.ensures ∙ front-is _ _)))
+returns c = span-bad (front_stopped _ _ (front-bad _ _ (ap told_count (sym c.before.r.given.1) ∙ c.before.before.before.checked-run.ensures ∙ front-is _ _)))
 
 enum-known-n : tie.Need-enum-known-n
 enum-known-n c = search rules
@@ -29,11 +29,11 @@ header-in-requires : tie.Need-header-in-requires
 header-in-requires c κs = search rules
 
 -- checks 1 to 9 pass, of a plain message or of another
-passing : (c : tie.Joined1) → good c.if1.run ≡ frontRun c.before.before.before.args.s.now c.before.before.before.args.at
+passing : (c : tie.Joined1) → good c.if1.run ≡ front_run c.before.before.before.args.s.now c.before.before.before.args.at
 passing c =
     ⊎_elim
     (λ w. ap good w.1 ∙ sym (c.before.plain_at.ensures w.0.taken))
-    (λ w. ap good w.5 ∙ ap toldCount (sym w.3.given.1) ∙ w.1.ensures ∙ front-is _ _)
+    (λ w. ap good w.5 ∙ ap told_count (sym w.3.given.1) ∙ w.1.ensures ∙ front-is _ _)
     c.if1.branch
 
 sub-span-from-ten : tie.Need-overflow-sub-span-from-ten

@@ -2,7 +2,7 @@
 use mathlib.Core.Path.{sym, ap, ◌∙◌}
 use borrow.Author.Rules.{rules}
 use Rattle.message.proofs.Messages.{no_cut, miscounted, whole, span-bad, span-good}
-use Rattle.message.specs.Answers.{toldCount}
+use Rattle.message.specs.Answers.{told_count}
 use Rattle.message.proofs.span_from_ten.Statement.{statement}
 use Rattle.message.proofs.span_from_ten.Tie as tie
 
@@ -49,16 +49,16 @@ miscounts-requires : tie.Need-miscounts-requires
 miscounts-requires c κs = search rules
 
 returns : tie.Need-returns
-returns c = span-bad (miscounted _ _ _ c.before.before.before.before.before.before.before.before.before.before.before.before.requires _ _ c.before.before.before.before.before.before.before.before.before.before.payload-start.ensures.0 c.before.before.before.before.before.before.before.before.before.wide32.ensures.0 _ (ap toldCount (sym c.before.before.before.before.before.k.given.1) ∙ c.before.before.before.before.before.before.before.packages-of.ensures) (sym c.before.miscounts.ensures ∙ c.if1.true))
+returns c = span-bad (miscounted _ _ _ c.before.before.before.before.before.before.before.before.before.before.before.before.requires _ _ c.before.before.before.before.before.before.before.before.before.before.payload-start.ensures.0 c.before.before.before.before.before.before.before.before.before.wide32.ensures.0 _ (ap told_count (sym c.before.before.before.before.before.k.given.1) ∙ c.before.before.before.before.before.before.before.packages-of.ensures) (sym c.before.miscounts.ensures ∙ c.if1.true))
 
 add-t18 : tie.Need-overflow-add-t18
 add-t18 c = search rules
 
 returns-2 : tie.Need-returns-2
-returns-2 c = span-bad (no_cut _ _ _ c.before.before.before.before.before.before.before.before.requires _ _ c.before.before.before.before.before.before.payload-start.ensures.0 c.before.before.before.before.before.wide32.ensures.0 (ap toldCount (sym c.before.r.given.1) ∙ c.before.before.before.packages-of.ensures))
+returns-2 c = span-bad (no_cut _ _ _ c.before.before.before.before.before.before.before.before.requires _ _ c.before.before.before.before.before.before.payload-start.ensures.0 c.before.before.before.before.before.wide32.ensures.0 (ap told_count (sym c.before.r.given.1) ∙ c.before.before.before.packages-of.ensures))
 
 returns-3 : tie.Need-returns-3
-returns-3 c = span-good (whole _ _ _ c.before.before.before.before.before.before.before.before.before.before.before.before.requires _ _ c.before.before.before.before.before.before.before.before.before.before.payload-start.ensures.0 c.before.before.before.before.before.before.before.before.before.wide32.ensures.0 _ (ap toldCount (sym c.before.before.before.before.before.k.given.1) ∙ c.before.before.before.before.before.before.before.packages-of.ensures) (sym c.before.miscounts.ensures ∙ c.if1.false))
+returns-3 c = span-good (whole _ _ _ c.before.before.before.before.before.before.before.before.before.before.before.before.requires _ _ c.before.before.before.before.before.before.before.before.before.before.payload-start.ensures.0 c.before.before.before.before.before.before.before.before.before.wide32.ensures.0 _ (ap told_count (sym c.before.before.before.before.before.k.given.1) ∙ c.before.before.before.before.before.before.before.packages-of.ensures) (sym c.before.miscounts.ensures ∙ c.if1.false))
 
 pub span-from-ten-spec : {M : Type 1} → statement M
 span-from-ten-spec =

@@ -1,6 +1,6 @@
 -- `message::tested_in` meets its contract: each field is a number at its place.
 use borrow.Author.Rules.{rules}
-use Rattle.message.proofs.Checks.{tested-numbers}
+use Rattle.message.proofs.Checks.{tested_numbers}
 use Rattle.message.proofs.tested_in.Statement.{statement}
 use Rattle.message.proofs.tested_in.Tie as tie
 
@@ -17,7 +17,7 @@ word-at-requires-2 : tie.Need-word-at-requires-2
 word-at-requires-2 c κs = search rules
 
 returns : tie.Need-returns
-returns c = tested-numbers _ c.before.before.before.byte_at.ensures c.before.before.byte-at2.ensures c.before.word_at.ensures c.word-at2.ensures
+returns c = tested_numbers _ c.before.before.before.byte_at.ensures c.before.before.byte-at2.ensures c.before.word_at.ensures c.word-at2.ensures
 
 pub tested-in-spec : {M : Type 1} → statement M
 tested-in-spec =

@@ -7,8 +7,8 @@ use lib.ListN.{length, take, length-replicate}
 use lib.Seq.{length-take-le}
 use Rattle.rules.specs.Outcome.{good}
 use Rattle.rules.specs.Sheet as rows
-use Rattle.numbered.specs.Quota.{settled, shorter, mostIn}
-use Rattle.sheet.specs.Table.{rowsIn}
+use Rattle.numbered.specs.Quota.{settled, shorter, most_in}
+use Rattle.sheet.specs.Table.{rows_in}
 use Rattle.numbered.specs.Parts.{Most}
 use Rattle.numbered.specs.Told.{state_of}
 use Rattle.numbered.proofs.Whole.{most-first, most-is, ids-refused, sheet-refused}
@@ -27,8 +27,8 @@ use Rattle.numbered.proofs.copy_under.Reads as copy-under
 abbrev After : Type 0
 After = lts.After-most-in (shorter-reads.Asked, shorter-reads.Learnt, most-in.Asked, most-in.Learnt, bad-ids.Asked, bad-ids.Learnt, read_table.Asked, read_table.Learnt, copy-under.Asked, copy-under.Learnt) reads.Pre reads.Post
 
-most-eq : (c : After) → c.most-in.result ≡ mostIn (shorter (length c.before.before.before.before.before.before.before.args.ids.now) (length c.before.before.before.before.before.before.before.args.next.now)) c.before.before.before.before.before.before.before.args.held
-most-eq c = c.most-in.ensures ∙ ap (λ (k : ℕ). mostIn k c.before.before.before.before.before.before.before.args.held) c.before.shorter.ensures
+most-eq : (c : After) → c.most-in.result ≡ most_in (shorter (length c.before.before.before.before.before.before.before.args.ids.now) (length c.before.before.before.before.before.before.before.args.next.now)) c.before.before.before.before.before.before.before.args.held
+most-eq c = c.most-in.ensures ∙ ap (λ (k : ℕ). most_in k c.before.before.before.before.before.before.before.args.held) c.before.shorter.ensures
 
 within : (c : After) → Most (shorter (length c.before.before.before.before.before.before.before.args.ids.now) (length c.before.before.before.before.before.before.before.args.next.now)) c.before.before.before.before.before.before.before.args.held c.most-in.result
 within c =
@@ -70,7 +70,7 @@ enum-known-read-2 c = search rules
 abbrev Read : Type 0
 Read = lts.After-known-told2 (shorter-reads.Asked, shorter-reads.Learnt, most-in.Asked, most-in.Learnt, bad-ids.Asked, bad-ids.Learnt, read_table.Asked, read_table.Learnt, copy-under.Asked, copy-under.Learnt) reads.Pre reads.Post
 
-table-read : (c : Read) → (7 * c.before.read2.given.0.0 ≤ 224) × (7 * c.before.read2.given.0.0 ≤ length c.before.before.before.before.read_table.new.1.0) × (rows.sheet c.before.before.before.before.before.before.before.before.before.before.before.before.before.before.before.before.args.sheet.now ≡ good (rowsIn (take (7 * c.before.read2.given.0.0) c.before.before.before.before.read_table.new.1.0)))
+table-read : (c : Read) → (7 * c.before.read2.given.0.0 ≤ 224) × (7 * c.before.read2.given.0.0 ≤ length c.before.before.before.before.read_table.new.1.0) × (rows.sheet c.before.before.before.before.before.before.before.before.before.before.before.before.before.before.before.before.args.sheet.now ≡ good (rows_in (take (7 * c.before.read2.given.0.0) c.before.before.before.before.read_table.new.1.0)))
 table-read c =
     let t = c.before.before.before.before.read_table in
     rows-read c.before.before.before.before.before.before.before.before.before.before.before.before.before.before.before.before.args.sheet.now _ _ t.result t.ensures.0 t.ensures.1 (length-replicate {A = ℕ} 224 0) _ c.before.read2.given.1

@@ -9,12 +9,12 @@ use lib.ListN.{length, take, length-replicate}
 use lib.Seq.{length-take-le}
 use Rattle.rules.specs.Outcome.{good}
 use Rattle.numbered.specs.declared.Progress.{Progress}
-use Rattle.numbered.specs.Quota.{badIds}
-use Rattle.sheet.specs.Table.{rowsIn}
-use Rattle.numbered.specs.Parts.{Single, known_of, roomOf, refusedIds}
-use Rattle.numbered.specs.Told.{measured, toldMeasure, state_of}
+use Rattle.numbered.specs.Quota.{bad_ids}
+use Rattle.sheet.specs.Table.{rows_in}
+use Rattle.numbered.specs.Parts.{Single, known_of, room_of, refused_ids}
+use Rattle.numbered.specs.Told.{measured, told_measure, state_of}
 use Rattle.numbered.proofs.Marks.{tells_none}
-use Rattle.numbered.proofs.Whole.{Asked, asked, held-most, messages-refused, measured-alone, consumed-inside, part-short, roomy, marked-part, room-missing, done, as_written}
+use Rattle.numbered.proofs.Whole.{Asked, asked, held-most, messages-refused, measured-alone, consumed-inside, part-short, roomy, marked-part, room_missing, done, as_written}
 use Rattle.numbered.proofs.copy_under.Statement.{statement}
 use Rattle.numbered.proofs.copy_under.Tie as tie
 use Rattle.numbered.proofs.copy_under.Reads as reads
@@ -34,12 +34,12 @@ asks s = let a = s.args in asked a.input.now [] a.quota a.ids.now a.next.now a.h
 abbrev After : Type 0
 After = lts.After-measure-messages (Known-of.Asked, Known-of.Learnt, room_of.Asked, room_of.Learnt, measure-messages.Asked, measure-messages.Learnt, write-messages.Asked, write-messages.Learnt) reads.Pre reads.Post
 
-told_is : (c : After) → toldMeasure c.measure-messages.result ≡ measured (rowsIn c.before.before.before.before.before.before.before.before.before.before.args.table.now) c.before.before.before.before.before.before.before.before.before.before.args.input.now c.before.before.before.before.before.before.before.before.before.before.args.quota (take (known_of c.before.before.before.before.before.before.before.before.before.before.args.measured c.before.before.before.before.before.before.before.before.before.before.args.held) c.before.before.before.before.before.before.before.before.before.before.args.ids.now) (roomOf c.before.before.before.before.before.before.before.before.before.before.args.measured c.before.before.before.before.before.before.before.before.before.before.args.most c.before.before.before.before.before.before.before.before.before.before.args.held)
+told_is : (c : After) → told_measure c.measure-messages.result ≡ measured (rows_in c.before.before.before.before.before.before.before.before.before.before.args.table.now) c.before.before.before.before.before.before.before.before.before.before.args.input.now c.before.before.before.before.before.before.before.before.before.before.args.quota (take (known_of c.before.before.before.before.before.before.before.before.before.before.args.measured c.before.before.before.before.before.before.before.before.before.before.args.held) c.before.before.before.before.before.before.before.before.before.before.args.ids.now) (room_of c.before.before.before.before.before.before.before.before.before.before.args.measured c.before.before.before.before.before.before.before.before.before.before.args.most c.before.before.before.before.before.before.before.before.before.before.args.held)
 told_is c =
     let a = c.before.before.before.before.before.before.before.before.before.before.args in
     c.measure-messages.ensures.0
-    ∙ ap (λ (k : ℕ). measured (rowsIn a.table.now) a.input.now a.quota (take k a.ids.now) c.before.before.before.room_of.result) c.before.before.before.before.Known-of.ensures
-    ∙ ap (λ (k : ℕ). measured (rowsIn a.table.now) a.input.now a.quota (take (known_of a.decreases a.held) a.ids.now) k) c.before.before.before.room_of.ensures
+    ∙ ap (λ (k : ℕ). measured (rows_in a.table.now) a.input.now a.quota (take k a.ids.now) c.before.before.before.room_of.result) c.before.before.before.before.Known-of.ensures
+    ∙ ap (λ (k : ℕ). measured (rows_in a.table.now) a.input.now a.quota (take (known_of a.decreases a.held) a.ids.now) k) c.before.before.before.room_of.ensures
 
 -- they pass
 abbrev Fits : Type 0
@@ -48,23 +48,23 @@ Fits = lts.After-size2 (Known-of.Asked, Known-of.Learnt, room_of.Asked, room_of.
 abbrev size : Fits → Progress
 size c = c.size2.given.0.0
 
-sized : (c : Fits) → good (size c) ≡ measured (rowsIn c.before.before.before.before.before.before.before.before.before.before.before.before.before.args.table.now) c.before.before.before.before.before.before.before.before.before.before.before.before.before.args.input.now c.before.before.before.before.before.before.before.before.before.before.before.before.before.args.quota (take (known_of c.before.before.before.before.before.before.before.before.before.before.before.before.before.args.measured c.before.before.before.before.before.before.before.before.before.before.before.before.before.args.held) c.before.before.before.before.before.before.before.before.before.before.before.before.before.args.ids.now) (roomOf c.before.before.before.before.before.before.before.before.before.before.before.before.before.args.measured c.before.before.before.before.before.before.before.before.before.before.before.before.before.args.most c.before.before.before.before.before.before.before.before.before.before.before.before.before.args.held)
-sized c = ap toldMeasure (sym c.size2.given.1) ∙ told_is c.before.before.before
+sized : (c : Fits) → good (size c) ≡ measured (rows_in c.before.before.before.before.before.before.before.before.before.before.before.before.before.args.table.now) c.before.before.before.before.before.before.before.before.before.before.before.before.before.args.input.now c.before.before.before.before.before.before.before.before.before.before.before.before.before.args.quota (take (known_of c.before.before.before.before.before.before.before.before.before.before.before.before.before.args.measured c.before.before.before.before.before.before.before.before.before.before.before.before.before.args.held) c.before.before.before.before.before.before.before.before.before.before.before.before.before.args.ids.now) (room_of c.before.before.before.before.before.before.before.before.before.before.before.before.before.args.measured c.before.before.before.before.before.before.before.before.before.before.before.before.before.args.most c.before.before.before.before.before.before.before.before.before.before.before.before.before.args.held)
+sized c = ap told_measure (sym c.size2.given.1) ∙ told_is c.before.before.before
 
 -- and it is not measured alone
 abbrev Writes : Type 0
 Writes = lts.Else1 (Known-of.Asked, Known-of.Learnt, room_of.Asked, room_of.Learnt, measure-messages.Asked, measure-messages.Learnt, write-messages.Asked, write-messages.Learnt) reads.Pre reads.Post
 
-held-good : (c : Writes) → badIds c.before.before.before.before.before.before.before.before.before.before.before.before.before.before.before.args.most c.before.before.before.before.before.before.before.before.before.before.before.before.before.before.before.args.ids.now c.before.before.before.before.before.before.before.before.before.before.before.before.before.before.before.args.held ≡ false
+held-good : (c : Writes) → bad_ids c.before.before.before.before.before.before.before.before.before.before.before.before.before.before.before.args.most c.before.before.before.before.before.before.before.before.before.before.before.before.before.before.before.args.ids.now c.before.before.before.before.before.before.before.before.before.before.before.before.before.before.before.args.held ≡ false
 held-good c =
     let s = c.before.before.before.before.before.before.before.before.before.before.before.before.before.before.before in
     let a = s.args in
-    sym (ap (λ (b : Bool). refusedIds b a.most a.ids.now a.held) c.if1.false) ∙ s.requires.0
+    sym (ap (λ (b : Bool). refused_ids b a.most a.ids.now a.held) c.if1.false) ∙ s.requires.0
 
-sized_on : (c : Writes) → good (size c.before.before) ≡ measured (rowsIn c.before.before.before.before.before.before.before.before.before.before.before.before.before.before.before.args.table.now) c.before.before.before.before.before.before.before.before.before.before.before.before.before.before.before.args.input.now c.before.before.before.before.before.before.before.before.before.before.before.before.before.before.before.args.quota (take c.before.before.before.before.before.before.before.before.before.before.before.before.before.before.before.args.held c.before.before.before.before.before.before.before.before.before.before.before.before.before.before.before.args.ids.now) (c.before.before.before.before.before.before.before.before.before.before.before.before.before.before.before.args.most - c.before.before.before.before.before.before.before.before.before.before.before.before.before.before.before.args.held)
+sized_on : (c : Writes) → good (size c.before.before) ≡ measured (rows_in c.before.before.before.before.before.before.before.before.before.before.before.before.before.before.before.args.table.now) c.before.before.before.before.before.before.before.before.before.before.before.before.before.before.before.args.input.now c.before.before.before.before.before.before.before.before.before.before.before.before.before.before.before.args.quota (take c.before.before.before.before.before.before.before.before.before.before.before.before.before.before.before.args.held c.before.before.before.before.before.before.before.before.before.before.before.before.before.before.before.args.ids.now) (c.before.before.before.before.before.before.before.before.before.before.before.before.before.before.before.args.most - c.before.before.before.before.before.before.before.before.before.before.before.before.before.before.before.args.held)
 sized_on c =
     let a = c.before.before.before.before.before.before.before.before.before.before.before.before.before.before.before.args in
-    sized c.before.before ∙ ap (λ (b : Bool). measured (rowsIn a.table.now) a.input.now a.quota (take (known_of b a.held) a.ids.now) (roomOf b a.most a.held)) c.if1.false
+    sized c.before.before ∙ ap (λ (b : Bool). measured (rows_in a.table.now) a.input.now a.quota (take (known_of b a.held) a.ids.now) (room_of b a.most a.held)) c.if1.false
 
 known-of-requires : tie.Need-known-of-requires
 known-of-requires c κs = search rules
@@ -109,7 +109,7 @@ returns : tie.Need-returns
 returns c =
     let s = c.before.before.before.before.before.before.before.before.before.before.before.before.before.before.before in
     let a = s.args in
-    record { right = λ sheetBytes valid. measured-alone a.input.now sheetBytes a.quota a.ids.now a.next.now a.held a.out.now a.most s.requires.1 (rowsIn a.table.now) valid (size c.before.before) c.if1.true (sized c.before.before) }
+    record { right = λ sheetBytes valid. measured-alone a.input.now sheetBytes a.quota a.ids.now a.next.now a.held a.out.now a.most s.requires.1 (rows_in a.table.now) valid (size c.before.before) c.if1.true (sized c.before.before) }
 
 same-length-2 : tie.Need-same-length-2
 same-length-2 c = search rules
@@ -120,14 +120,14 @@ returns-2 c =
     let a = s.args in
     record {
       right = λ sheetBytes valid. as_written a.most a.input.now sheetBytes a.quota (state_of a.ids.now a.next.now a.held) a.out.now c.before.before.if1.false
-          (room-missing a.input.now sheetBytes a.quota a.ids.now a.next.now a.held a.out.now a.most s.requires.1 (rowsIn a.table.now) valid (size c.before.before.before.before) (held-good c.before.before) (sized_on c.before.before) c.if2.true);
+          (room_missing a.input.now sheetBytes a.quota a.ids.now a.next.now a.held a.out.now a.most s.requires.1 (rows_in a.table.now) valid (size c.before.before.before.before) (held-good c.before.before) (sized_on c.before.before) c.if2.true);
     }
 
 slice-aggregate-write-messages : tie.Need-slice-aggregate-write-messages
 slice-aggregate-write-messages c =
     let s = c.before.before.before.before.before.before.before.before.before.before.before.before.before.before.before.before.before.before in
     let a = s.args in
-    sym (length-take-le (size c.before.before.before.before.before).consumed a.input.now (consumed-inside a.input.now [] a.quota a.ids.now a.next.now a.held a.out.now a.most s.requires.1 (rowsIn a.table.now) (size c.before.before.before.before.before) (held-good c.before.before.before) (sized_on c.before.before.before)))
+    sym (length-take-le (size c.before.before.before.before.before).consumed a.input.now (consumed-inside a.input.now [] a.quota a.ids.now a.next.now a.held a.out.now a.most s.requires.1 (rows_in a.table.now) (size c.before.before.before.before.before) (held-good c.before.before.before) (sized_on c.before.before.before)))
 
 slice-aggregate-write-messages-2 : tie.Need-slice-aggregate-write-messages-2
 slice-aggregate-write-messages-2 c = search rules
@@ -137,9 +137,9 @@ write-messages-requires c κs =
     let s = c.before.before.before.before.before.before.before.before.before.before.before.before.before.before.before.before.before.before.before.before.before.before in
     let a = s.args in
     let w = c.before.before.before.before.before.before.before in (
-      part-short a.input.now [] a.quota a.ids.now a.next.now a.held a.out.now a.most s.requires.1 (rowsIn a.table.now) (size c.before.before.before.before.before.before.before.before.before) (held-good w) (sized_on w),
-      roomy a.input.now [] a.quota a.ids.now a.next.now a.held a.out.now a.most s.requires.1 (rowsIn a.table.now) (size c.before.before.before.before.before.before.before.before.before) (held-good w) (sized_on w),
-      marked-part a.input.now [] a.quota a.ids.now a.next.now a.held a.out.now a.most s.requires.1 (rowsIn a.table.now) (size c.before.before.before.before.before.before.before.before.before) (held-good w) (sized_on w) _ _ c.before.before.before.before.before.before.before.before.before.size2.given.1 c.before.before.before.before.before.before.before.before.before.before.before.before.measure-messages.ensures.1,
+      part-short a.input.now [] a.quota a.ids.now a.next.now a.held a.out.now a.most s.requires.1 (rows_in a.table.now) (size c.before.before.before.before.before.before.before.before.before) (held-good w) (sized_on w),
+      roomy a.input.now [] a.quota a.ids.now a.next.now a.held a.out.now a.most s.requires.1 (rows_in a.table.now) (size c.before.before.before.before.before.before.before.before.before) (held-good w) (sized_on w),
+      marked-part a.input.now [] a.quota a.ids.now a.next.now a.held a.out.now a.most s.requires.1 (rows_in a.table.now) (size c.before.before.before.before.before.before.before.before.before) (held-good w) (sized_on w) _ _ c.before.before.before.before.before.before.before.before.before.size2.given.1 c.before.before.before.before.before.before.before.before.before.before.before.before.measure-messages.ensures.1,
     )
 
 same-length-3 : tie.Need-same-length-3
@@ -150,8 +150,8 @@ returns-3 c =
     let s = c.before.before.before.before.before.before.before.before.before.before.before.before.before.before in
     let a = s.args in
     record {
-      right = λ sheetBytes valid. messages-refused a.input.now sheetBytes a.quota a.ids.now a.next.now a.held a.out.now a.most s.requires.1 (rowsIn a.table.now) valid a.decreases s.requires.0 c.before.size.given.0.0
-          (ap toldMeasure (sym c.before.size.given.1) ∙ told_is c.before.before.before.before);
+      right = λ sheetBytes valid. messages-refused a.input.now sheetBytes a.quota a.ids.now a.next.now a.held a.out.now a.most s.requires.1 (rows_in a.table.now) valid a.decreases s.requires.0 c.before.size.given.0.0
+          (ap told_measure (sym c.before.size.given.1) ∙ told_is c.before.before.before.before);
     }
 
 same-length-4 : tie.Need-same-length-4
@@ -170,7 +170,7 @@ returns-4 c =
     let w = c.before.before.before.before.before.before.before.before.before.before.before.before.before.before in
     record {
       right = λ sheetBytes valid. as_written a.most a.input.now sheetBytes a.quota (state_of a.ids.now a.next.now a.held) a.out.now w.if1.false
-          (done a.input.now sheetBytes a.quota a.ids.now a.next.now a.held a.out.now a.most s.requires.1 (rowsIn a.table.now) valid (size c.before.before.before.before.before.before.before.before.before.before.before.before.before.before.before.before) (held-good w) (sized_on w) c.before.before.before.before.before.before.before.before.before.before.before.before.if2.false _ _ _ _ c.before.before.before.before.before.before.write-messages.ensures);
+          (done a.input.now sheetBytes a.quota a.ids.now a.next.now a.held a.out.now a.most s.requires.1 (rows_in a.table.now) valid (size c.before.before.before.before.before.before.before.before.before.before.before.before.before.before.before.before) (held-good w) (sized_on w) c.before.before.before.before.before.before.before.before.before.before.before.before.if2.false _ _ _ _ c.before.before.before.before.before.before.write-messages.ensures);
     }
 
 pub copy-under-spec : {M : Type 1} → statement M

@@ -6,15 +6,15 @@ use native.Mathlib.Omega.{arith}
 use lib.ListN.{length}
 use Rattle.message.specs.declared.Message.{Message}
 use Rattle.message.specs.declared.MessageRead.TheVariants as M
-use Rattle.message.specs.Answers.{toldMessage}
-use Rattle.rules.specs.Reading.{messageAt}
+use Rattle.message.specs.Answers.{told_message}
+use Rattle.rules.specs.Reading.{message_at}
 use Rattle.numbered.specs.declared.Progress.{Progress}
 use Rattle.numbered.specs.declared.MessageTaken.{MessageTaken}
 use Rattle.numbered.specs.declared.Size.{Size}
-use Rattle.sheet.specs.Table.{rowsIn}
-use Rattle.numbered.specs.Parts.{read_of, Measured, MeasuredIn, judgedAs}
+use Rattle.sheet.specs.Table.{rows_in}
+use Rattle.numbered.specs.Parts.{read_of, Measured, MeasuredIn, judged_as}
 use Rattle.numbered.proofs.Entries.{Spots, spots}
-use Rattle.numbered.proofs.Tally.{Measuring, measure-start, measure-ended, measure-full, measure-refused, fresh-once, packages-few, measure-next, large}
+use Rattle.numbered.proofs.Tally.{Measuring, measure_start, measure_ended, measure_full, measure_refused, fresh-once, packages-few, measure_next, large}
 use Rattle.numbered.proofs.count_messages.Statement.{statement}
 use Rattle.numbered.proofs.count_messages.Tie as tie
 use Rattle.numbered.proofs.count_messages.Reads as reads
@@ -28,7 +28,7 @@ use Rattle.numbered.proofs.seat.Reads as seat
 
 abbrev invariant-loop : tie.invariant-loop
 invariant-loop input table quota known room fresh₀ marks₀ near₀ seats₀ totals₀ handled₀ at₀ passed₀ fresh marks near seats totals handled at passed =
-    (length input ≤ 65536) × (length near ≡ 128) × Measuring (rowsIn table) input quota known room totals handled fresh seats marks passed at
+    (length input ≤ 65536) × (length near ≡ 128) × Measuring (rows_in table) input quota known room totals handled fresh seats marks passed at
 
 abbrev decreases-loop : tie.decreases-loop
 decreases-loop input table quota known room fresh₀ marks₀ near₀ seats₀ totals₀ handled₀ at₀ passed₀ fresh marks near seats totals handled at passed = length input - at
@@ -43,12 +43,12 @@ message c = c.before.before.found.given.0.0
 abbrev size : Read → Size
 size c = c.before.before.found.given.0.1.0
 
-read : (c : Read) → toldMessage (M.Message (message c)) ≡ messageAt c.before.before.before.before.before.before.before.before.before.before.before.before.before.before.before.before.before.before.before.args.input.now c.before.before.before.before.before.before.before.before.before.before.before.before.loop.at
-read c = ap (λ (x : MessageTaken). toldMessage (read_of x)) (sym c.before.before.found.given.1) ∙ c.before.before.before.before.before.before.before.take-message.ensures.told
+read : (c : Read) → told_message (M.Message (message c)) ≡ message_at c.before.before.before.before.before.before.before.before.before.before.before.before.before.before.before.before.before.before.before.args.input.now c.before.before.before.before.before.before.before.before.before.before.before.before.loop.at
+read c = ap (λ (x : MessageTaken). told_message (read_of x)) (sym c.before.before.found.given.1) ∙ c.before.before.before.before.before.before.before.take-message.ensures.told
 
 -- and measured
-measures : (c : Read) → Measured (rowsIn c.before.before.before.before.before.before.before.before.before.before.before.before.before.before.before.before.before.before.before.args.table.now) c.before.before.before.before.before.before.before.before.before.before.before.before.before.before.before.before.before.before.before.args.input.now c.before.before.before.before.before.before.before.before.before.before.before.before.loop.marks c.before.before.before.before.before.before.before.take-message.new.1.1.1.1.0 c.before.before.before.before.before.before.before.before.before.before.before.before.loop.passed (message c) (size c)
-measures c = subst (MeasuredIn (rowsIn c.before.before.before.before.before.before.before.before.before.before.before.before.before.before.before.before.before.before.before.args.table.now) c.before.before.before.before.before.before.before.before.before.before.before.before.before.before.before.before.before.before.before.args.input.now c.before.before.before.before.before.before.before.before.before.before.before.before.loop.marks _ c.before.before.before.before.before.before.before.before.before.before.before.before.loop.passed) c.before.before.found.given.1 c.before.before.before.before.before.before.before.take-message.ensures.measured
+measures : (c : Read) → Measured (rows_in c.before.before.before.before.before.before.before.before.before.before.before.before.before.before.before.before.before.before.before.args.table.now) c.before.before.before.before.before.before.before.before.before.before.before.before.before.before.before.before.before.before.before.args.input.now c.before.before.before.before.before.before.before.before.before.before.before.before.loop.marks c.before.before.before.before.before.before.before.take-message.new.1.1.1.1.0 c.before.before.before.before.before.before.before.before.before.before.before.before.loop.passed (message c) (size c)
+measures c = subst (MeasuredIn (rows_in c.before.before.before.before.before.before.before.before.before.before.before.before.before.before.before.before.before.before.before.args.table.now) c.before.before.before.before.before.before.before.before.before.before.before.before.before.before.before.before.before.before.before.args.input.now c.before.before.before.before.before.before.before.before.before.before.before.before.loop.marks _ c.before.before.before.before.before.before.before.before.before.before.before.before.loop.passed) c.before.before.found.given.1 c.before.before.before.before.before.before.before.take-message.ensures.measured
 
 places : (c : Read) → Spots c.before.before.before.before.before.before.before.before.before.before.before.before.before.before.before.before.before.before.before.args.input.now c.before.before.before.before.before.before.before.before.before.before.before.before.loop.at (message c)
 places c = spots c.before.before.before.before.before.before.before.before.before.before.before.before.before.before.before.before.before.before.before.args.input.now c.before.before.before.before.before.before.before.before.before.before.before.before.loop.invariant.0 c.before.before.before.before.before.before.before.before.before.before.before.before.loop.at (message c) (read c)
@@ -59,13 +59,13 @@ refused-count-requires c κs = search rules
 returns : tie.Need-returns invariant-loop decreases-loop
 returns c =
     let a = c.before.before.before.before.before.before.before.args in
-    large (rowsIn a.table.now) a.input.now a.quota a.known.now a.room a.fresh.now a.marks.now _ c.refused-count.ensures c.before.if1.true
+    large (rows_in a.table.now) a.input.now a.quota a.known.now a.room a.fresh.now a.marks.now _ c.refused-count.ensures c.before.if1.true
 
 loop-holds : tie.Need-loop-init invariant-loop decreases-loop
 loop-holds c =
     let s = c.before.before.before.before.before.before in
     let a = s.args in
-    (search rules, refl, measure-start (rowsIn a.table.now) a.input.now a.quota a.known.now a.room a.fresh.now a.marks.now s.requires.3 s.requires.1 s.requires.5 s.requires.6)
+    (search rules, refl, measure_start (rows_in a.table.now) a.input.now a.quota a.known.now a.room a.fresh.now a.marks.now s.requires.3 s.requires.1 s.requires.5 s.requires.6)
 
 taken-with-requires : tie.Need-taken-with-requires invariant-loop decreases-loop
 taken-with-requires c κs = search rules
@@ -77,14 +77,14 @@ same_length : tie.Need-same-length invariant-loop decreases-loop
 same_length c = c.before.before.before.before.loop.invariant.2.long ∙ sym c.before.before.before.before.before.before.before.before.before.before.before.requires.3
 
 same-length-2 : tie.Need-same-length-2 invariant-loop decreases-loop
-same-length-2 c = c.before.before.before.before.loop.invariant.2.marks-long ∙ sym c.before.before.before.before.before.before.before.before.before.before.before.requires.5
+same-length-2 c = c.before.before.before.before.loop.invariant.2.marks_long ∙ sym c.before.before.before.before.before.before.before.before.before.before.before.requires.5
 
 returns-2 : tie.Need-returns-2 invariant-loop decreases-loop
 returns-2 c =
     let s = c.before.before.before.before.before.before.before.before.before.before.before in
     let a = s.args in
     let v = c.before.before.before.before.loop in
-    measure-full (rowsIn a.table.now) a.input.now a.quota a.known.now a.room v.invariant.0 v.totals v.handled v.fresh v.seats v.marks v.passed v.at v.invariant.2 s.requires.2 _ (c.count_of.ensures ∙ ap (λ (p : Progress). record { answer = judgedAs p v.seats a.room; many = v.seats.many }) c.before.taken-with.ensures) c.before.before.if2.true
+    measure_full (rows_in a.table.now) a.input.now a.quota a.known.now a.room v.invariant.0 v.totals v.handled v.fresh v.seats v.marks v.passed v.at v.invariant.2 s.requires.2 _ (c.count_of.ensures ∙ ap (λ (p : Progress). record { answer = judged_as p v.seats a.room; many = v.seats.many }) c.before.taken-with.ensures) c.before.before.if2.true
 
 slice-aggregate-take-message : tie.Need-slice-aggregate-take-message invariant-loop decreases-loop
 slice-aggregate-take-message c = sym c.before.before.before.loop.invariant.1
@@ -93,7 +93,7 @@ take-message-requires : tie.Need-take-message-requires invariant-loop decreases-
 take-message-requires c κs =
     let s = c.before.before.before.before.before.before.before.before.before.before.before in
     let i = c.before.before.before.before.loop.invariant in
-    (i.0, i.2.passed-few, s.requires.4, i.1, i.2.marks-long)
+    (i.0, i.2.passed-few, s.requires.4, i.1, i.2.marks_long)
 
 enum-known-found : tie.Need-enum-known-found invariant-loop decreases-loop
 enum-known-found c = search rules
@@ -111,7 +111,7 @@ seat-requires c κs =
     let s = c.before.before.before.before.before.before.before.before.before.before.before.before.before.before.before.before.before.before.before.before.before in
     let a = s.args in
     let v = c.before.before.before.before.before.before.before.before.before.before.before.before.before.before.loop in
-    (s.requires.0, s.requires.1.once _, v.invariant.2.long, fresh-once (rowsIn a.table.now) a.input.now a.quota a.known.now a.room v.invariant.0 v.totals v.handled v.fresh v.seats v.marks v.passed v.at v.invariant.2 _)
+    (s.requires.0, s.requires.1.once _, v.invariant.2.long, fresh-once (rows_in a.table.now) a.input.now a.quota a.known.now a.room v.invariant.0 v.totals v.handled v.fresh v.seats v.marks v.passed v.at v.invariant.2 _)
 
 add-handled : tie.Need-overflow-add-handled invariant-loop decreases-loop
 add-handled c =
@@ -123,7 +123,7 @@ add-passed c =
     let a = c.before.before.before.before.before.before.before.before.before.before.before.before.before.before.before.before.before.before.before.before.before.before.before.before.before.args in
     let v = c.before.before.before.before.before.before.before.before.before.before.before.before.before.before.before.before.before.before.loop in
     let r = c.before.before.before.before.before.before in
-    omega (arith, v.invariant.2.passed-few, v.invariant.2.tally.inside, v.invariant.0, (places r).within, packages-few (rowsIn a.table.now) a.input.now a.quota a.known.now a.room v.invariant.0 v.totals v.handled v.fresh v.seats v.marks v.passed v.at v.invariant.2 c.before.before.before.before.before.before.before.before.before.before.before.before.before.before.before.before.before.loop-test.true c.before.before.before.before.before.before.before.before.before.before.before.before.before.before.before.before.if2.false (message r) (read r) _ (size r) (measures r))
+    omega (arith, v.invariant.2.passed-few, v.invariant.2.tally.inside, v.invariant.0, (places r).within, packages-few (rows_in a.table.now) a.input.now a.quota a.known.now a.room v.invariant.0 v.totals v.handled v.fresh v.seats v.marks v.passed v.at v.invariant.2 c.before.before.before.before.before.before.before.before.before.before.before.before.before.before.before.before.before.loop-test.true c.before.before.before.before.before.before.before.before.before.before.before.before.before.before.before.before.if2.false (message r) (read r) _ (size r) (measures r))
 
 loop-less : tie.Need-loop-smaller invariant-loop decreases-loop
 loop-less c = omega (arith, (places c.before.before.before.before.before.before).on, (places c.before.before.before.before.before.before).within)
@@ -133,7 +133,7 @@ loop-again c =
     let a = c.before.before.before.before.before.before.before.before.before.before.before.before.before.before.before.before.before.before.before.before.before.before.before.before.before.args in
     let v = c.before.before.before.before.before.before.before.before.before.before.before.before.before.before.before.before.before.before.loop in
     let r = c.before.before.before.before.before.before in
-    (v.invariant.0, search rules, rw c.before.before.before.before.before.with-entry.ensures (measure-next (rowsIn a.table.now) a.input.now a.quota a.known.now a.room v.invariant.0 v.totals v.handled v.fresh v.seats v.marks v.passed v.at v.invariant.2 c.before.before.before.before.before.before.before.before.before.before.before.before.before.before.before.before.before.loop-test.true c.before.before.before.before.before.before.before.before.before.before.before.before.before.before.before.before.if2.false (message r) (read r) _ (size r) (measures r) _ _ c.before.before.before.seat.ensures (search rules)))
+    (v.invariant.0, search rules, rw c.before.before.before.before.before.with-entry.ensures (measure_next (rows_in a.table.now) a.input.now a.quota a.known.now a.room v.invariant.0 v.totals v.handled v.fresh v.seats v.marks v.passed v.at v.invariant.2 c.before.before.before.before.before.before.before.before.before.before.before.before.before.before.before.before.before.loop-test.true c.before.before.before.before.before.before.before.before.before.before.before.before.before.before.before.before.if2.false (message r) (read r) _ (size r) (measures r) _ _ c.before.before.before.seat.ensures (search rules)))
 
 enum-known-found-2 : tie.Need-enum-known-found-2 invariant-loop decreases-loop
 enum-known-found-2 c = search rules
@@ -151,7 +151,7 @@ returns-3 : tie.Need-returns-3 invariant-loop decreases-loop
 returns-3 c =
     let a = c.before.before.before.before.before.before.before.before.before.before.before.before.before.before.before.before.before.before.before.args in
     let v = c.before.before.before.before.before.before.before.before.before.before.before.before.loop in
-    measure-refused (rowsIn a.table.now) a.input.now a.quota a.known.now a.room v.invariant.0 v.totals v.handled v.fresh v.seats v.marks v.passed v.at v.invariant.2 c.before.before.before.before.before.before.before.before.before.before.before.loop-test.true c.before.before.before.before.before.before.before.before.before.before.if2.false _ c.before.before.found2.given.0.0 _ c.refused-count2.ensures (ap (λ (x : MessageTaken). toldMessage (read_of x)) (sym c.before.before.found2.given.1) ∙ c.before.before.before.before.before.before.before.take-message.ensures.told)
+    measure_refused (rows_in a.table.now) a.input.now a.quota a.known.now a.room v.invariant.0 v.totals v.handled v.fresh v.seats v.marks v.passed v.at v.invariant.2 c.before.before.before.before.before.before.before.before.before.before.before.loop-test.true c.before.before.before.before.before.before.before.before.before.before.if2.false _ c.before.before.found2.given.0.0 _ c.refused-count2.ensures (ap (λ (x : MessageTaken). told_message (read_of x)) (sym c.before.before.found2.given.1) ∙ c.before.before.before.before.before.before.before.take-message.ensures.told)
 
 taken-with-requires-2 : tie.Need-taken-with-requires-2 invariant-loop decreases-loop
 taken-with-requires-2 c κs = search rules
@@ -163,14 +163,14 @@ same-length-5 : tie.Need-same-length-5 invariant-loop decreases-loop
 same-length-5 c = c.before.before.before.loop.invariant.2.long ∙ sym c.before.before.before.before.before.before.before.before.before.before.requires.3
 
 same-length-6 : tie.Need-same-length-6 invariant-loop decreases-loop
-same-length-6 c = c.before.before.before.loop.invariant.2.marks-long ∙ sym c.before.before.before.before.before.before.before.before.before.before.requires.5
+same-length-6 c = c.before.before.before.loop.invariant.2.marks_long ∙ sym c.before.before.before.before.before.before.before.before.before.before.requires.5
 
 returns-4 : tie.Need-returns-4 invariant-loop decreases-loop
 returns-4 c =
     let s = c.before.before.before.before.before.before.before.before.before.before in
     let a = s.args in
     let v = c.before.before.before.loop in
-    measure-ended (rowsIn a.table.now) a.input.now a.quota a.known.now a.room v.invariant.0 v.totals v.handled v.fresh v.seats v.marks v.passed v.at v.invariant.2 s.requires.2 _ (c.count-of2.ensures ∙ ap (λ (p : Progress). record { answer = judgedAs p v.seats a.room; many = v.seats.many }) c.before.taken-with2.ensures) (search rules)
+    measure_ended (rows_in a.table.now) a.input.now a.quota a.known.now a.room v.invariant.0 v.totals v.handled v.fresh v.seats v.marks v.passed v.at v.invariant.2 s.requires.2 _ (c.count-of2.ensures ∙ ap (λ (p : Progress). record { answer = judged_as p v.seats a.room; many = v.seats.many }) c.before.taken-with2.ensures) (search rules)
 
 pub count-messages-spec : {M : Type 1} → statement M
 count-messages-spec =

@@ -5,9 +5,9 @@ use native.Mathlib.Omega.{arith}
 use lib.ListN.{length, take, set}
 use lib.Seq.{sets, length-take-le}
 use borrow.Author.Rules.{rules}
-use Rattle.numbered.specs.Parts.{Ready, headBytes}
-use Rattle.numbered.proofs.Held.{room-for}
-use Rattle.numbered.proofs.Marks.{bit-put}
+use Rattle.numbered.specs.Parts.{Ready, head_bytes}
+use Rattle.numbered.proofs.Held.{room_for_lem}
+use Rattle.numbered.proofs.Marks.{bit_put}
 use Rattle.numbered.proofs.deliver.Statement.{statement}
 use Rattle.numbered.proofs.deliver.Tie as tie
 use Rattle.numbered.proofs.deliver.Reads as reads
@@ -35,7 +35,7 @@ abbrev Found : Type 0
 Found = lts.After-place-seen (place-seen.Asked, place-seen.Learnt, number_at.Asked, number_at.Learnt, write-head.Asked, write-head.Learnt, one_on.Asked, one_on.Learnt, slot_of.Asked, slot_of.Learnt, put-bit.Asked, put-bit.Learnt, held_with.Asked, held_with.Learnt) reads.Pre reads.Post
 
 near : (c : Found) → (c.place-seen.result < length c.before.before.before.before.before.before.before.before.args.ids.now) × (c.place-seen.result < length c.before.before.before.before.before.before.before.before.args.next.now)
-near c = room-for _ _ _ _ _ (ready c.before.before.before) _ c.place-seen.ensures
+near c = room_for_lem _ _ _ _ _ (ready c.before.before.before) _ c.place-seen.ensures
 
 returns : tie.Need-returns
 returns c = record { none = λ e. (refl, refl, refl, refl, refl); bit = λ h. absurd (h c.if1.true); one = λ h. absurd (h c.if1.true) }
@@ -111,11 +111,11 @@ returns-2 c =
     let a = c.before.before.before.before.before.before.before.before.before.before.before.before.before.before.before.before.before.before.before.before.before.before.args in
     record {
       none = λ e. absurd (c.before.before.before.before.before.before.before.before.before.before.before.before.before.before.before.before.before.if1.false e);
-      bit = λ h. bit-put a.seen.now a.h.id.0 c.before.before.before.before.before.slot_of.ensures c.before.before.before.before.put-bit.ensures;
+      bit = λ h. bit_put a.seen.now a.h.id.0 c.before.before.before.before.before.slot_of.ensures c.before.before.before.before.put-bit.ensures;
       one = λ h. record {
         place = p.place-seen.result;
         spot = p.place-seen.ensures;
-        head = c.before.before.before.before.before.before.before.before.before.before.write-head.ensures ∙ ap (λ (k : ℕ). sets a.out.now a.done.to (headBytes a.h k (24 + a.bytes))) n.ensures;
+        head = c.before.before.before.before.before.before.before.before.before.before.write-head.ensures ∙ ap (λ (k : ℕ). sets a.out.now a.done.to (head_bytes a.h k (24 + a.bytes))) n.ensures;
         named = refl;
         counted = ap (λ (v : ℕ). set a.next.now p.place-seen.result v) (c.before.before.before.before.before.before.before.one_on.ensures ∙ ap (λ (k : ℕ). (k + 1) % 2 ^ 32) n.ensures);
         reached = rw c.held_with.ensures;

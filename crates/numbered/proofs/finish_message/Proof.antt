@@ -5,9 +5,9 @@ use mathlib.Core.Path.{sym, ap, ap₂, ◌∙◌}
 use mathlib.Core.Bool.{Bool}
 use Prim.Native.Nat.{◌+◌, ◌-◌}
 use lib.ListN.{take, drop}
-use Rattle.rules.specs.Options.{countSaid, differs}
-use Rattle.message.specs.Answers.{payloadFrom, next_from}
-use Rattle.numbered.specs.Parts.{finishedBy}
+use Rattle.rules.specs.Options.{count_said, differs}
+use Rattle.message.specs.Answers.{payload_from, next_from}
+use Rattle.numbered.specs.Parts.{finished_by}
 use Rattle.numbered.proofs.finish_message.Statement.{statement}
 use Rattle.numbered.proofs.finish_message.Tie as tie
 
@@ -38,8 +38,8 @@ add-t15 c = search rules
 returns : tie.Need-returns
 returns c =
     let a = c.before.before.before.before.before.before.args in
-    ap (λ (b : Bool). finishedBy b (differs (countSaid (take (a.at + 24 + a.h.run - (a.at + 24)) (drop (a.at + 24) a.input.now))) a.w.all) a.at a.h a.w)
-    (sym (lt-ltb a.w.end (next_from a.at a.h - payloadFrom a.at a.h) (search rules)))
+    ap (λ (b : Bool). finished_by b (differs (count_said (take (a.at + 24 + a.h.run - (a.at + 24)) (drop (a.at + 24) a.input.now))) a.w.all) a.at a.h a.w)
+    (sym (lt-ltb a.w.end (next_from a.at a.h - payload_from a.at a.h) (search rules)))
 
 add-from : tie.Need-overflow-add-from
 add-from c = search rules
@@ -62,12 +62,12 @@ miscounts-requires c κs = search rules
 returns-2 : tie.Need-returns-2
 returns-2 c =
     let a = c.before.before.before.before.before.before.before.before.before.args in
-    ap₂ (λ (b d : Bool). finishedBy b d a.at a.h a.w) (sym (le-ltb a.w.end (next_from a.at a.h - payloadFrom a.at a.h) (search rules))) (sym c.if2.true ∙ c.before.miscounts.ensures)
+    ap₂ (λ (b d : Bool). finished_by b d a.at a.h a.w) (sym (le-ltb a.w.end (next_from a.at a.h - payload_from a.at a.h) (search rules))) (sym c.if2.true ∙ c.before.miscounts.ensures)
 
 returns-3 : tie.Need-returns-3
 returns-3 c =
     let a = c.before.before.before.before.before.before.before.before.before.before.args in
-    ap₂ (λ (b d : Bool). finishedBy b d a.at a.h a.w) (sym (le-ltb a.w.end (next_from a.at a.h - payloadFrom a.at a.h) (search rules))) (sym c.before.if2.false ∙ c.before.before.miscounts.ensures)
+    ap₂ (λ (b d : Bool). finished_by b d a.at a.h a.w) (sym (le-ltb a.w.end (next_from a.at a.h - payload_from a.at a.h) (search rules))) (sym c.before.if2.false ∙ c.before.before.miscounts.ensures)
 
 pub finish-message-spec : {M : Type 1} → statement M
 finish-message-spec =

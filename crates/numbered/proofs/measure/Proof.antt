@@ -7,8 +7,8 @@ use lib.ListN.{length, take, length-replicate}
 use lib.Seq.{length-take-le}
 use Rattle.rules.specs.Outcome.{good}
 use Rattle.rules.specs.Sheet as rows
-use Rattle.numbered.specs.Quota.{measuredIds, shorter}
-use Rattle.sheet.specs.Table.{rowsIn}
+use Rattle.numbered.specs.Quota.{measured_ids, shorter}
+use Rattle.sheet.specs.Table.{rows_in}
 use Rattle.numbered.proofs.Whole.{shorter-least}
 use Rattle.sheet.proofs.TableRows.{rows-read, sheet-refused as read-refused}
 use Rattle.numbered.proofs.Alone.{ids-bad, sheet-bad}
@@ -42,7 +42,7 @@ returns c =
     let a = c.before.before.before.before.before.before.before.args in
     let w = within c.before.before.before in
     ids-bad a.input.now a.sheet.now a.quota a.ids.now a.held c.before.before.before.shorter.result w.0 w.1 (sym c.if1.true ∙ c.before.bad-ids.ensures)
-    ∙ ap (λ (k : ℕ). measuredIds k a.input.now a.sheet.now a.quota a.ids.now a.held) c.before.before.before.shorter.ensures
+    ∙ ap (λ (k : ℕ). measured_ids k a.input.now a.sheet.now a.quota a.ids.now a.held) c.before.before.before.shorter.ensures
 
 slice-aggregate-read-table : tie.Need-slice-aggregate-read-table
 slice-aggregate-read-table c = refl
@@ -60,7 +60,7 @@ enum-known-read-2 c = search rules
 abbrev Read : Type 0
 Read = lts.After-known-told2 (shorter-reads.Asked, shorter-reads.Learnt, bad-ids.Asked, bad-ids.Learnt, read_table.Asked, read_table.Learnt, measure-under.Asked, measure-under.Learnt) reads.Pre reads.Post
 
-table-read : (c : Read) → (7 * c.before.read2.given.0.0 ≤ 224) × (7 * c.before.read2.given.0.0 ≤ length c.before.before.before.before.read_table.new.1.0) × (rows.sheet c.before.before.before.before.before.before.before.before.before.before.before.before.before.args.sheet.now ≡ good (rowsIn (take (7 * c.before.read2.given.0.0) c.before.before.before.before.read_table.new.1.0)))
+table-read : (c : Read) → (7 * c.before.read2.given.0.0 ≤ 224) × (7 * c.before.read2.given.0.0 ≤ length c.before.before.before.before.read_table.new.1.0) × (rows.sheet c.before.before.before.before.before.before.before.before.before.before.before.before.before.args.sheet.now ≡ good (rows_in (take (7 * c.before.read2.given.0.0) c.before.before.before.before.read_table.new.1.0)))
 table-read c =
     let t = c.before.before.before.before.read_table in
     rows-read c.before.before.before.before.before.before.before.before.before.before.before.before.before.args.sheet.now _ _ t.result t.ensures.0 t.ensures.1 (length-replicate {A = ℕ} 224 0) _ c.before.read2.given.1
@@ -89,7 +89,7 @@ returns-2 c =
     let q = c.before.before.before.before.read_table in
     sheet-bad a.input.now a.sheet.now a.quota a.ids.now a.held c.before.before.before.before.before.before.before.before.before.shorter.result w.0 w.1 (sym c.before.before.before.before.before.before.before.bad-ids.ensures ∙ c.before.before.before.before.before.before.if1.false) c.before.read.given.0.0
     (read-refused a.sheet.now _ _ q.result q.ensures.0 q.ensures.1 c.before.read.given.0.0 c.before.read.given.1)
-    ∙ ap (λ (k : ℕ). measuredIds k a.input.now a.sheet.now a.quota a.ids.now a.held) c.before.before.before.before.before.before.before.before.before.shorter.ensures
+    ∙ ap (λ (k : ℕ). measured_ids k a.input.now a.sheet.now a.quota a.ids.now a.held) c.before.before.before.before.before.before.before.before.before.shorter.ensures
 
 same-length-3 : tie.Need-same-length-3
 same-length-3 c = search rules
@@ -98,7 +98,7 @@ returns-3 : tie.Need-returns-3
 returns-3 c =
     let a = c.before.before.before.before.before.before.before.before.before.before.before.before.before.before.before.before.before.before.args in
     c.before.before.measure-under.ensures.right a.sheet.now (table-read c.before.before.before.before.before).2
-    ∙ ap (λ (k : ℕ). measuredIds k a.input.now a.sheet.now a.quota a.ids.now a.held) c.before.before.before.before.before.before.before.before.before.before.before.before.before.before.shorter.ensures
+    ∙ ap (λ (k : ℕ). measured_ids k a.input.now a.sheet.now a.quota a.ids.now a.held) c.before.before.before.before.before.before.before.before.before.before.before.before.before.before.shorter.ensures
 
 pub measure-spec : {M : Type 1} → statement M
 measure-spec =

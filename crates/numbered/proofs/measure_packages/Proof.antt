@@ -8,16 +8,16 @@ use lib.ListN.{length, take}
 use lib.Seq.{length-take-le}
 use Rattle.message.specs.declared.Mdid.{Mdid}
 use Rattle.message.specs.declared.Package.{Package}
-use Rattle.message.specs.Answers.{toldPackage}
-use Rattle.rules.specs.Message.{isSimulated}
-use Rattle.rules.specs.Walk.{packageAt}
-use Rattle.sheet.specs.Table.{rowsIn, nearOf, nearGrants}
-use Rattle.numbered.specs.Parts.{messageBy}
+use Rattle.message.specs.Answers.{told_package}
+use Rattle.rules.specs.Message.{is_simulated}
+use Rattle.rules.specs.Walk.{package_at}
+use Rattle.sheet.specs.Table.{rows_in, near_of, near_grants}
+use Rattle.numbered.specs.Parts.{message_by}
 use Rattle.message.proofs.Left.{Left, gone, none-gone, left-all, left-long, more-gone, left-on}
 use Rattle.message.proofs.Moved.{moved}
 use Rattle.numbered.proofs.Found.{Found, on, still}
-use Rattle.sheet.proofs.TableRows.{near-laid}
-use Rattle.numbered.proofs.Packages.{found-behind, near-asked, Walking, walk_start, walk-ended, walk-stopped, walk-next}
+use Rattle.sheet.proofs.TableRows.{near_laid}
+use Rattle.numbered.proofs.Packages.{found-behind, near_asked, Walking, walk_start, walk_ended, walk_stopped, walk_next}
 use Rattle.numbered.proofs.measure_packages.Statement.{statement}
 use Rattle.numbered.proofs.measure_packages.Tie as tie
 use Rattle.numbered.proofs.measure_packages.Reads as reads
@@ -32,8 +32,8 @@ use Rattle.wire.proofs.put_bit.Reads as put-bit
 
 abbrev invariant-loop : tie.invariant-loop
 invariant-loop run h table near marks₀ first many size₀ all₀ rest₀ marks size all rest =
-    (12 * first + length run ≤ 65536) × (many ≤ length near) × (take many near ≡ nearOf h.id.0 (isSimulated h.flags) table) × Left run rest
-    × Walking (rowsIn table) (messageBy h) run marks₀ first size all marks (gone run rest)
+    (12 * first + length run ≤ 65536) × (many ≤ length near) × (take many near ≡ near_of h.id.0 (is_simulated h.flags) table) × Left run rest
+    × Walking (rows_in table) (message_by h) run marks₀ first size all marks (gone run rest)
 
 abbrev decreases-loop : tie.decreases-loop
 decreases-loop run h table near marks₀ first many size₀ all₀ rest₀ marks size all rest = length rest
@@ -53,7 +53,7 @@ place : (c : Read) → Found c.before.before.before.before.before.before.before.
 unfolding at
 place c =
     let v = c.before.before.before.before.before.loop in
-    found-behind c.before.before.before.before.before.before.before.before.before.before.before.before.before.before.before.args.run.now (at c) (omega (arith, v.invariant.0)) (which c) (ap toldPackage (sym c.before.found.given.1) ∙ c.before.before.before.package-at.ensures ∙ ap (λ (l : List ℕ). packageAt l 0) v.invariant.3.is)
+    found-behind c.before.before.before.before.before.before.before.before.before.before.before.before.before.before.before.args.run.now (at c) (omega (arith, v.invariant.0)) (which c) (ap told_package (sym c.before.found.given.1) ∙ c.before.before.before.package-at.ensures ∙ ap (λ (l : List ℕ). package_at l 0) v.invariant.3.is)
 
 -- and that it lies in what is left
 fit : (c : Read) → (which c).next ≤ length c.before.before.before.before.before.loop.rest.now
@@ -72,8 +72,8 @@ loop-holds c =
     let a = s.args in
     let n = c.before.before.near-rows in
     let m = c.before.before.before.before.source_of.ensures in
-    let (l, e) = near-laid a.table.now a.near.now _ n.result _ a.h.id.0 _ (isSimulated a.h.flags) (ap (λ (x : Mdid). x.0) m.0) m.1 s.requires.1 s.requires.2 n.ensures.0 n.ensures.1 in
-    (s.requires.0, l, e, left-all _, rw (none-gone a.run.now) (walk_start (rowsIn a.table.now) (messageBy a.h) a.run.now a.marks.now a.first s.requires.3))
+    let (l, e) = near_laid a.table.now a.near.now _ n.result _ a.h.id.0 _ (is_simulated a.h.flags) (ap (λ (x : Mdid). x.0) m.0) m.1 s.requires.1 s.requires.2 n.ensures.0 n.ensures.1 in
+    (s.requires.0, l, e, left-all _, rw (none-gone a.run.now) (walk_start (rows_in a.table.now) (message_by a.h) a.run.now a.marks.now a.first s.requires.3))
 
 package-at-requires : tie.Need-package-at-requires invariant-loop decreases-loop
 package-at-requires c κs = search rules
@@ -94,7 +94,7 @@ returns : tie.Need-returns invariant-loop decreases-loop
 returns c =
     let v = c.before.before.before.loop in
     let a = c.before.before.before.before.before.before.before.before.before.before.before.before.before.args in
-    walk-stopped (rowsIn a.table.now) (messageBy a.h) a.run.now a.marks.now a.first v.size v.all v.marks _ v.invariant.4 (omega (arith, v.invariant.0)) (omega (arith, c.before.before.loop-test.true, v.invariant.3.most)) c.before.package-at.result c.match.keys2 (c.before.package-at.ensures ∙ ap (λ (l : List ℕ). packageAt l 0) v.invariant.3.is)
+    walk_stopped (rows_in a.table.now) (message_by a.h) a.run.now a.marks.now a.first v.size v.all v.marks _ v.invariant.4 (omega (arith, v.invariant.0)) (omega (arith, c.before.before.loop-test.true, v.invariant.3.most)) c.before.package-at.result c.match.keys2 (c.before.package-at.ensures ∙ ap (λ (l : List ℕ). package_at l 0) v.invariant.3.is)
 
 package-time-requires : tie.Need-package-time-requires invariant-loop decreases-loop
 package-time-requires c κs = search rules
@@ -149,8 +149,8 @@ loop-again c =
     let v = r.before.before.before.before.before.loop in
     let a = r.before.before.before.before.before.before.before.before.before.before.before.before.before.before.before.args in
     let g = c.before.before.before.before.before.before.near-grants in
-    let asked = g.ensures ∙ ap₂ (λ (t : ℕ) (l : List ℕ). nearGrants (which r).id.0 t l) c.before.before.before.before.before.before.before.before.package-time.ensures v.invariant.2 ∙ near-asked a.table.now a.h a.run.now (at r) (moved (at r) (which r)) (place r) in
-    (v.invariant.0, v.invariant.1, v.invariant.2, left-on _ _ _ v.invariant.3 (fit r), rw (more-gone _ _ _ v.invariant.3 (fit r), c.before.with-package.ensures, c.before.before.before.before.put-bit.ensures) (walk-next (rowsIn a.table.now) (messageBy a.h) a.run.now a.marks.now a.first v.size v.all v.marks (at r) v.invariant.4 (omega (arith, v.invariant.0)) (omega (arith, r.before.before.before.before.loop-test.true, v.invariant.3.most)) v.invariant.0 (which r) (place r) g.result asked))
+    let asked = g.ensures ∙ ap₂ (λ (t : ℕ) (l : List ℕ). near_grants (which r).id.0 t l) c.before.before.before.before.before.before.before.before.package-time.ensures v.invariant.2 ∙ near_asked a.table.now a.h a.run.now (at r) (moved (at r) (which r)) (place r) in
+    (v.invariant.0, v.invariant.1, v.invariant.2, left-on _ _ _ v.invariant.3 (fit r), rw (more-gone _ _ _ v.invariant.3 (fit r), c.before.with-package.ensures, c.before.before.before.before.put-bit.ensures) (walk_next (rows_in a.table.now) (message_by a.h) a.run.now a.marks.now a.first v.size v.all v.marks (at r) v.invariant.4 (omega (arith, v.invariant.0)) (omega (arith, r.before.before.before.before.loop-test.true, v.invariant.3.most)) v.invariant.0 (which r) (place r) g.result asked))
 
 same-length-3 : tie.Need-same-length-3 invariant-loop decreases-loop
 same-length-3 c = search rules
@@ -163,7 +163,7 @@ returns-2 c =
     let v = c.before.loop in
     let a = c.before.before.before.before.before.before.before.before.before.before.before.args in
     let z : gone a.run.now v.rest.now ≡ length a.run.now = omega (arith, c.loop-test.false) in
-    rw z at (walk-ended (rowsIn a.table.now) (messageBy a.h) a.run.now a.marks.now a.first v.size v.all v.marks _ v.invariant.4 (omega (arith, z)))
+    rw z at (walk_ended (rows_in a.table.now) (message_by a.h) a.run.now a.marks.now a.first v.size v.all v.marks _ v.invariant.4 (omega (arith, z)))
 
 pub measure-packages-spec : {M : Type 1} → statement M
 measure-packages-spec =

@@ -7,8 +7,8 @@ use lib.Seq.{length-take-le}
 use borrow.Author.Rules.{rules}
 use Rattle.numbered.specs.declared.Answer.TheVariants as answer
 use Rattle.numbered.specs.declared.Numbered.{Numbered}
-use Rattle.sheet.specs.Table.{rowsIn}
-use Rattle.numbered.specs.Told.{toldIds}
+use Rattle.sheet.specs.Table.{rows_in}
+use Rattle.numbered.specs.Told.{told_ids}
 use Rattle.numbered.proofs.States.{good-few, good-single}
 use Rattle.numbered.proofs.Twice.{twice-once}
 use Rattle.numbered.proofs.Marks.{tells_none}
@@ -80,7 +80,7 @@ returns : tie.Need-returns
 returns c =
     let s = c.before.before.before.before.before.before.before.before.before.before.before.before in
     let a = s.args in
-    record { right = λ sheetBytes valid. messages-bad a.input.now sheetBytes a.quota a.ids.now a.held a.most s.requires.2 s.requires.1 s.requires.0 (rowsIn a.table.now) valid _ _ (search rules) _ c.before.before.before.before.before.count-messages.ensures _ c.before.answer.given.1 }
+    record { right = λ sheetBytes valid. messages-bad a.input.now sheetBytes a.quota a.ids.now a.held a.most s.requires.2 s.requires.1 s.requires.0 (rows_in a.table.now) valid _ _ (search rules) _ c.before.before.before.before.before.count-messages.ensures _ c.before.answer.given.1 }
 
 same-length-2 : tie.Need-same-length-2
 same-length-2 c = search rules
@@ -90,7 +90,7 @@ returns-2 c =
     let s = c.before.before.before.before.before.before.before.before.before.before.before.before.before.before.before.before.before in
     let a = s.args in
     let r : Numbered = record { answer = answer.Done c.before.before.before.before.before.before.answer2.given.0.0; held = a.held + c.before.before.before.before.before.before.before.before.before.before.count-messages.result.many } in
-    record { right = λ sheetBytes valid. ap (toldIds r) c.before.before.put-behind.ensures ∙ all-counted a.input.now sheetBytes a.quota a.ids.now a.held a.most s.requires.2 s.requires.1 s.requires.0 (rowsIn a.table.now) valid _ _ (search rules) _ c.before.before.before.before.before.before.before.before.before.before.count-messages.ensures _ c.before.before.before.before.before.before.answer2.given.1 }
+    record { right = λ sheetBytes valid. ap (told_ids r) c.before.before.put-behind.ensures ∙ all-counted a.input.now sheetBytes a.quota a.ids.now a.held a.most s.requires.2 s.requires.1 s.requires.0 (rows_in a.table.now) valid _ _ (search rules) _ c.before.before.before.before.before.before.before.before.before.before.count-messages.ensures _ c.before.before.before.before.before.before.answer2.given.1 }
 
 pub measure-under-spec : {M : Type 1} → statement M
 measure-under-spec =

@@ -6,7 +6,7 @@ use Prim.Native.Nat.{◌+◌, ◌-◌, ◌≤◌}
 use native.Mathlib.Omega.{arith}
 use lib.ListN.{length}
 use Rattle.rules.specs.Items.{count}
-use Rattle.numbered.proofs.Seeking.{Seeking, seek-start, seek-ended, seek-miss, seek_hit}
+use Rattle.numbered.proofs.Seeking.{Seeking, seek_start, seek_ended, seek_miss, seek_hit}
 use Rattle.numbered.proofs.place_of.Statement.{statement}
 use Rattle.numbered.proofs.place_of.Tie as tie
 
@@ -20,7 +20,7 @@ cast-left : tie.Need-overflow-cast-left invariant-loop decreases-loop
 cast-left c = search rules
 
 loop-holds : tie.Need-loop-init invariant-loop decreases-loop
-loop-holds c = (search rules, search rules, omega arith, seek-start c.args.ids.now c.args.id)
+loop-holds c = (search rules, search rules, omega arith, seek_start c.args.ids.now c.args.id)
 
 mul-if1 : tie.Need-overflow-mul-if1 invariant-loop decreases-loop
 mul-if1 c = omega arith
@@ -49,7 +49,7 @@ loop-again c =
       omega arith,
       ⊎_elim
           (λ w. rw w.1 (seek_hit a.ids.now a.id v.behind v.i v.invariant.3 (search rules) v.left v.invariant.2 v.invariant.1 w.0.taken))
-          (λ w. rw w.1 (seek-miss a.ids.now a.id v.behind v.i v.invariant.3 (search rules) w.0.left))
+          (λ w. rw w.1 (seek_miss a.ids.now a.id v.behind v.i v.invariant.3 (search rules) w.0.left))
           c.if1.branch,
     )
 
@@ -63,7 +63,7 @@ returns : tie.Need-returns invariant-loop decreases-loop
 returns c =
     let v = c.before.loop in
     let a = c.before.before.args in
-    seek-ended a.ids.now a.id v.behind v.i v.invariant.3 (search rules)
+    seek_ended a.ids.now a.id v.behind v.i v.invariant.3 (search rules)
 
 pub place-of-spec : {M : Type 1} → statement M
 place-of-spec =

@@ -3,7 +3,7 @@ use borrow.Author.Rules.{rules}
 use mathlib.Core.Path.{sym, ap, ◌∙◌}
 use Prim.Native.Nat.{ℕ}
 use lib.Dec.{eqb}
-use Rattle.wire.specs.Bits.{bitAt}
+use Rattle.wire.specs.Bits.{bit_at}
 use Rattle.numbered.proofs.Marks.{unseen}
 use Rattle.numbered.proofs.place_seen.Statement.{statement}
 use Rattle.numbered.proofs.place_seen.Tie as tie
@@ -25,7 +25,7 @@ returns-2 c =
     let s = c.before.before.before.before.before in
     let a = s.args in
     unseen a.seen.now a.ids.now s.requires.2 a.id
-    (ap (λ (k : ℕ). eqb (bitAt a.seen.now k) 1) (sym c.before.before.slot_of.ensures) ∙ sym c.before.bit_at.ensures ∙ c.if1.false)
+    (ap (λ (k : ℕ). eqb (bit_at a.seen.now k) 1) (sym c.before.before.slot_of.ensures) ∙ sym c.before.bit_at.ensures ∙ c.if1.false)
 
 pub place-seen-spec : {M : Type 1} → statement M
 place-seen-spec = tie.close (tie.spec slot-of-requires bit-at-requires place-of-requires returns returns-2)

@@ -5,8 +5,8 @@ use Prim.Native.Nat.{◌-◌, ◌≤◌}
 use native.Mathlib.Omega.{arith}
 use lib.ListN.{length, get_or, take}
 use lib.Seq.{take_all}
-use Rattle.numbered.specs.Parts.{slotOf, Sees}
-use Rattle.numbered.proofs.Marks.{bit-put, bit-long, see-next}
+use Rattle.numbered.specs.Parts.{slot_of, Sees}
+use Rattle.numbered.proofs.Marks.{bit_put, bit-long, see_next}
 use Rattle.numbered.proofs.see.Statement.{statement}
 use Rattle.numbered.proofs.see.Tie as tie
 
@@ -41,9 +41,9 @@ loop-again : tie.Need-loop-preserved invariant-loop decreases-loop
 loop-again c =
     let a = c.before.before.before.before.before.before.before.before.before.before.args in
     let v = c.before.before.before.before.before.before.before.loop in
-    let e = bit-put v.seen (get_or a.ids.now v.i 0) c.before.before.before.slot_of.ensures c.before.before.put-bit.ensures in
-    let n = ap length e ∙ bit-long v.seen (slotOf (get_or a.ids.now v.i 0)) in
-    (omega arith, n ∙ v.invariant.1, n ∙ v.invariant.2, rw e (see-next v.seen a.ids.now v.i v.invariant.3 v.invariant.1 (search rules)))
+    let e = bit_put v.seen (get_or a.ids.now v.i 0) c.before.before.before.slot_of.ensures c.before.before.put-bit.ensures in
+    let n = ap length e ∙ bit-long v.seen (slot_of (get_or a.ids.now v.i 0)) in
+    (omega arith, n ∙ v.invariant.1, n ∙ v.invariant.2, rw e (see_next v.seen a.ids.now v.i v.invariant.3 v.invariant.1 (search rules)))
 
 same_length : tie.Need-same-length invariant-loop decreases-loop
 same_length c = search rules

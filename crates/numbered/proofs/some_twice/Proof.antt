@@ -4,14 +4,14 @@ use mathlib.Core.Path.{◌≡◌, refl, sym, ◌∙◌}
 use Prim.Native.Nat.{◌-◌, ◌≤◌}
 use native.Mathlib.Omega.{arith}
 use lib.ListN.{length, drop}
-use Rattle.numbered.specs.Quota.{someTwice}
+use Rattle.numbered.specs.Quota.{some_twice}
 use Rattle.numbered.proofs.Twice.{twice-end, twice-next, twice-hit}
 use Rattle.numbered.proofs.some_twice.Statement.{statement}
 use Rattle.numbered.proofs.some_twice.Tie as tie
 use Rattle.numbered.proofs.again.Reads as again
 
 abbrev invariant-loop : tie.invariant-loop
-invariant-loop ids i₀ i = (i ≤ length ids) × (someTwice ids ≡ someTwice (drop i ids))
+invariant-loop ids i₀ i = (i ≤ length ids) × (some_twice ids ≡ some_twice (drop i ids))
 
 abbrev decreases-loop : tie.decreases-loop
 decreases-loop ids i₀ i = length ids - i

@@ -4,10 +4,10 @@ use mathlib.Core.Path.{◌≡◌, sym, ap, ◌∙◌}
 use native.Mathlib.Omega.{arith}
 use Rattle.message.specs.declared.Header.{Header}
 use Rattle.message.specs.declared.HeaderRead.TheVariants as header
-use Rattle.message.specs.Answers.{toldCount, toldHeader, frontAt}
+use Rattle.message.specs.Answers.{told_count, told_header, front_at}
 use Rattle.message.proofs.Fronts.{front-bad, front-good, Fronted, fronted}
-use Rattle.sheet.specs.Table.{rowsIn}
-use Rattle.numbered.proofs.Packages.{took-refused, took-walked}
+use Rattle.sheet.specs.Table.{rows_in}
+use Rattle.numbered.proofs.Packages.{took_refused, took_walked}
 use Rattle.numbered.proofs.take_message.Statement.{statement}
 use Rattle.numbered.proofs.take_message.Tie as tie
 
@@ -15,8 +15,8 @@ use Rattle.numbered.proofs.take_message.Tie as tie
 abbrev H : tie.After-header-in → Header
 H c = c.header-in.result
 
-read : (c : tie.After-header-in) → toldHeader (header.Header (H c)) ≡ frontAt c.before.before.before.before.before.before.before.before.before.args.input.now c.before.before.before.before.before.before.before.before.before.args.at
-read c = front-good _ _ _ _ (ap toldCount (sym c.before.before.found2.given.1) ∙ c.before.before.before.before.front-run.ensures) c.header-in.ensures
+read : (c : tie.After-header-in) → told_header (header.Header (H c)) ≡ front_at c.before.before.before.before.before.before.before.before.before.args.input.now c.before.before.before.before.before.before.before.before.before.args.at
+read c = front-good _ _ _ _ (ap told_count (sym c.before.before.found2.given.1) ∙ c.before.before.before.before.front-run.ensures) c.header-in.ensures
 
 places : (c : tie.After-header-in) → Fronted c.before.before.before.before.before.before.before.before.before.args.input.now c.before.before.before.before.before.before.before.before.before.args.at (H c)
 places c = fronted _ _ (H c) (read c)
@@ -74,7 +74,7 @@ finish-message-requires c κs =
 returns : tie.Need-returns
 returns c =
     let a = c.before.before.before.before.before.before.before.before.args in
-    took-refused (rowsIn a.table.now) a.input.now a.at a.marks.now _ a.first c.before.found.given.0.0 (front-bad _ _ (ap toldCount (sym c.before.found.given.1) ∙ c.before.before.before.front-run.ensures))
+    took_refused (rows_in a.table.now) a.input.now a.at a.marks.now _ a.first c.before.found.given.0.0 (front-bad _ _ (ap told_count (sym c.before.found.given.1) ∙ c.before.before.before.front-run.ensures))
 
 same_length : tie.Need-same-length
 same_length c = search rules
@@ -87,7 +87,7 @@ returns-2 c =
     let a = c.before.before.before.before.before.before.before.before.before.before.before.before.before.before.before.before.before.before.before.before.args in
     let h = c.before.before.before.before.before.before.before.before.before.before.before in
     let w = c.before.before.before.before.before.measure-packages in
-    took-walked (rowsIn a.table.now) a.input.now a.at a.marks.now _ a.first (H h) (read h) w.result w.ensures c.finish-message.result c.finish-message.ensures
+    took_walked (rows_in a.table.now) a.input.now a.at a.marks.now _ a.first (H h) (read h) w.result w.ensures c.finish-message.result c.finish-message.ensures
 
 pub take-message-spec : {M : Type 1} → statement M
 take-message-spec =

@@ -7,19 +7,19 @@ use lib.ListN.{length}
 use lib.Seq.{length-sets, length-take-le}
 use Rattle.message.specs.declared.Header.{Header}
 use Rattle.message.proofs.Fronts.{Fronted}
-use Rattle.sheet.specs.Table.{rowsIn}
+use Rattle.sheet.specs.Table.{rows_in}
 use Rattle.numbered.specs.Parts.{Marked, Roomy}
 use Rattle.numbered.proofs.Marks.{sees-none}
-use Rattle.numbered.proofs.Written.{Writing, write-start, write-ended, write-there, ready, fits, few', write-next, ids-same, next-same}
+use Rattle.numbered.proofs.Written.{Writing, write-start, write-ended, write-there, ready, fits, few', write-next, ids_same, next_same}
 use Rattle.numbered.proofs.write_messages.Statement.{statement}
 use Rattle.numbered.proofs.write_messages.Tie as tie
 
 abbrev invariant-loop : tie.invariant-loop
 invariant-loop recording table marks ids₀ next₀ held out₀ seen₀ reached₀ at₀ passed₀ ids next out seen reached at passed =
     (length recording ≤ 65536)
-    × Roomy (rowsIn table) recording ids₀ next₀ held
-    × Marked (rowsIn table) recording marks
-    × Writing (rowsIn table) recording ids₀ next₀ held out₀ out ids next seen reached at passed
+    × Roomy (rows_in table) recording ids₀ next₀ held
+    × Marked (rows_in table) recording marks
+    × Writing (rows_in table) recording ids₀ next₀ held out₀ out ids next seen reached at passed
 
 abbrev decreases-loop : tie.decreases-loop
 decreases-loop recording table marks ids₀ next₀ held out₀ seen₀ reached₀ at₀ passed₀ ids next out seen reached at passed = length recording - at
@@ -32,7 +32,7 @@ places : (c : tie.After-header-in invariant-loop decreases-loop) → Fronted c.b
 places c =
     let v = c.before.before.loop in
     let a = c.before.before.before.before.before.before.before.before.before.before.before.before.before.args in
-    write-there (rowsIn a.table.now) a.recording.now a.ids.now a.next.now a.held a.out.now v.invariant.1 v.out v.ids v.next v.seen v.reached v.at v.passed v.invariant.3 v.invariant.0 (search rules) (H c) c.header-in.ensures
+    write-there (rows_in a.table.now) a.recording.now a.ids.now a.next.now a.held a.out.now v.invariant.1 v.out v.ids v.next v.seen v.reached v.at v.passed v.invariant.3 v.invariant.0 (search rules) (H c) c.header-in.ensures
 
 slice-reshare-prefix-see : tie.Need-slice-reshare-prefix-see invariant-loop decreases-loop
 slice-reshare-prefix-see c = c.before.before.before.before.before.before.requires.1.ids-held
@@ -50,7 +50,7 @@ loop-holds : tie.Need-loop-init invariant-loop decreases-loop
 loop-holds c =
     let a = c.before.before.before.before.before.before.before.before.before.before.args in
     let p = c.before.before.before.before.before.before.before.before.before.before.requires in
-    (p.0, p.1, p.2, write-start (rowsIn a.table.now) a.recording.now a.ids.now a.next.now a.held a.out.now p.1 _ c.before.see.ensures (search rules))
+    (p.0, p.1, p.2, write-start (rows_in a.table.now) a.recording.now a.ids.now a.next.now a.held a.out.now p.1 _ c.before.see.ensures (search rules))
 
 header-in-requires : tie.Need-header-in-requires invariant-loop decreases-loop
 header-in-requires c κs = search rules
@@ -101,9 +101,9 @@ deliver-requires c κs =
     let h = c.before.before.before.before.before.before.before.before.before.before.before.before in
     let v = h.before.before.loop in
     let a = h.before.before.before.before.before.before.before.before.before.before.before.before.before.args in (
-      fits (rowsIn a.table.now) a.recording.now a.ids.now a.next.now a.held a.out.now v.invariant.1 v.out v.ids v.next v.seen v.reached v.at v.passed v.invariant.3 v.invariant.0 (search rules) a.marks.now v.invariant.2 (H h) h.header-in.ensures _ w.result w.ensures,
+      fits (rows_in a.table.now) a.recording.now a.ids.now a.next.now a.held a.out.now v.invariant.1 v.out v.ids v.next v.seen v.reached v.at v.passed v.invariant.3 v.invariant.0 (search rules) a.marks.now v.invariant.2 (H h) h.header-in.ensures _ w.result w.ensures,
       search rules,
-      ready (rowsIn a.table.now) a.recording.now a.ids.now a.next.now a.held a.out.now v.invariant.1 v.out v.ids v.next v.seen v.reached v.at v.passed v.invariant.3 v.invariant.0 (search rules) a.marks.now v.invariant.2 (H h) h.header-in.ensures _ w.result w.ensures,
+      ready (rows_in a.table.now) a.recording.now a.ids.now a.next.now a.held a.out.now v.invariant.1 v.out v.ids v.next v.seen v.reached v.at v.passed v.invariant.3 v.invariant.0 (search rules) a.marks.now v.invariant.2 (H h) h.header-in.ensures _ w.result w.ensures,
     )
 
 add-passed : tie.Need-overflow-add-passed invariant-loop decreases-loop
@@ -112,7 +112,7 @@ add-passed c =
     let h = c.before.before.before.before.before.before.before.before.before.before.before.before.before.before.before.before.before.before.before.before.before in
     let v = h.before.before.loop in
     let a = h.before.before.before.before.before.before.before.before.before.before.before.before.before.args in
-    omega (arith, v.invariant.0, (places h).within, few' (rowsIn a.table.now) a.recording.now a.ids.now a.next.now a.held a.out.now v.invariant.1 v.out v.ids v.next v.seen v.reached v.at v.passed v.invariant.3 v.invariant.0 (search rules) a.marks.now v.invariant.2 (H h) h.header-in.ensures _ w.result w.ensures)
+    omega (arith, v.invariant.0, (places h).within, few' (rows_in a.table.now) a.recording.now a.ids.now a.next.now a.held a.out.now v.invariant.1 v.out v.ids v.next v.seen v.reached v.at v.passed v.invariant.3 v.invariant.0 (search rules) a.marks.now v.invariant.2 (H h) h.header-in.ensures _ w.result w.ensures)
 
 loop-less : tie.Need-loop-smaller invariant-loop decreases-loop
 loop-less c =
@@ -126,19 +126,19 @@ loop-again c =
     let h = c.before.before.before.before.before.before.before.before.before.before.before.before.before.before.before.before.before.before.before.before.before in
     let v = h.before.before.loop in
     let a = h.before.before.before.before.before.before.before.before.before.before.before.before.before.args in
-    (v.invariant.0, v.invariant.1, v.invariant.2, write-next (rowsIn a.table.now) a.recording.now a.ids.now a.next.now a.held a.out.now v.invariant.1 v.out v.ids v.next v.seen v.reached v.at v.passed v.invariant.3 v.invariant.0 (search rules) a.marks.now v.invariant.2 (H h) h.header-in.ensures _ w.result w.ensures _ _ _ _ _ d.ensures)
+    (v.invariant.0, v.invariant.1, v.invariant.2, write-next (rows_in a.table.now) a.recording.now a.ids.now a.next.now a.held a.out.now v.invariant.1 v.out v.ids v.next v.seen v.reached v.at v.passed v.invariant.3 v.invariant.0 (search rules) a.marks.now v.invariant.2 (H h) h.header-in.ensures _ w.result w.ensures _ _ _ _ _ d.ensures)
 
 same_length : tie.Need-same-length invariant-loop decreases-loop
 same_length c =
     let v = c.before.loop in
     let a = c.before.before.before.before.before.before.before.before.before.before.before.before.args in
-    ids-same (rowsIn a.table.now) a.recording.now a.ids.now a.next.now a.held a.out.now v.invariant.1 v.out v.ids v.next v.seen v.reached v.at v.passed v.invariant.3
+    ids_same (rows_in a.table.now) a.recording.now a.ids.now a.next.now a.held a.out.now v.invariant.1 v.out v.ids v.next v.seen v.reached v.at v.passed v.invariant.3
 
 same-length-2 : tie.Need-same-length-2 invariant-loop decreases-loop
 same-length-2 c =
     let v = c.before.loop in
     let a = c.before.before.before.before.before.before.before.before.before.before.before.before.args in
-    next-same (rowsIn a.table.now) a.recording.now a.ids.now a.next.now a.held a.out.now v.invariant.1 v.out v.ids v.next v.seen v.reached v.at v.passed v.invariant.3
+    next_same (rows_in a.table.now) a.recording.now a.ids.now a.next.now a.held a.out.now v.invariant.1 v.out v.ids v.next v.seen v.reached v.at v.passed v.invariant.3
 
 same-length-3 : tie.Need-same-length-3 invariant-loop decreases-loop
 same-length-3 c = ap length c.before.loop.invariant.3.stored ∙ simp length-sets
@@ -147,7 +147,7 @@ returns : tie.Need-returns invariant-loop decreases-loop
 returns c =
     let v = c.before.loop in
     let a = c.before.before.before.before.before.before.before.before.before.before.before.before.args in
-    write-ended (rowsIn a.table.now) a.recording.now a.ids.now a.next.now a.held a.out.now v.invariant.1 v.out v.ids v.next v.seen v.reached v.at v.passed v.invariant.3 (search rules)
+    write-ended (rows_in a.table.now) a.recording.now a.ids.now a.next.now a.held a.out.now v.invariant.1 v.out v.ids v.next v.seen v.reached v.at v.passed v.invariant.3 (search rules)
 
 pub write-messages-spec : {M : Type 1} → statement M
 write-messages-spec =

@@ -1,8 +1,8 @@
 -- `numbered::write_package` meets its contract: the four stores are the package.
 use native.Mathlib.Omega.{arith}
 use borrow.Author.Rules.{rules}
-use Rattle.rules.proofs.Claims.{premises-met}
-use Rattle.numbered.proofs.Stores.{package-all}
+use Rattle.rules.proofs.Claims.{premises_met}
+use Rattle.numbered.proofs.Stores.{package_all}
 use Rattle.numbered.proofs.write_package.Statement.{statement}
 use Rattle.numbered.proofs.write_package.Tie as tie
 
@@ -42,7 +42,7 @@ same_length c = search rules
 returns : tie.Need-returns
 returns c =
     let s = c.before.before.before.before.before.before.before.before.before.before.before.before.before.before.before.before.before.before.before in
-    package-all s.args.run.now s.args.p s.args.out.now s.args.at s.requires.1 (premises-met.bytes _ (λ k. omega (arith, c.before.before.before.before.before.before.before.before.before.before.before.before.before.before.before.before.before.before.shared-slice-known.given k))) c.before.before.before.before.before.before.before.before.before.before.before.word_at.ensures c.before.before.before.before.before.before.before.before.before.before.before.before.before.before.before.put_word.ensures
+    package_all s.args.run.now s.args.p s.args.out.now s.args.at s.requires.1 (premises_met.bytes _ (λ k. omega (arith, c.before.before.before.before.before.before.before.before.before.before.before.before.before.before.before.before.before.before.shared-slice-known.given k))) c.before.before.before.before.before.before.before.before.before.before.before.word_at.ensures c.before.before.before.before.before.before.before.before.before.before.before.before.before.before.before.put_word.ensures
     c.before.before.before.before.before.before.before.before.before.before.put-word2.ensures c.before.before.before.before.before.before.put-part.ensures c.before.before.put_byte.ensures
 
 pub write-package-spec : {M : Type 1} → statement M

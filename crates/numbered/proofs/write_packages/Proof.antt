@@ -8,14 +8,14 @@ use lib.ListN.{length, drop}
 use lib.Seq.{length-sets}
 use Rattle.message.specs.declared.Package.{Package}
 use Rattle.message.specs.declared.PackageRead.TheVariants as P
-use Rattle.message.specs.Answers.{toldPackage}
+use Rattle.message.specs.Answers.{told_package}
 use Rattle.rules.specs.Bytes.{Bytes}
-use Rattle.rules.specs.Walk.{packageAt}
-use Rattle.rules.proofs.Claims.{premises-met}
+use Rattle.rules.specs.Walk.{package_at}
+use Rattle.rules.proofs.Claims.{premises_met}
 use Rattle.message.proofs.Left.{Left, gone, none-gone, left-all, left-long, more-gone, left-on}
 use Rattle.message.proofs.Moved.{moved}
 use Rattle.numbered.proofs.Found.{Found, on, still}
-use Rattle.numbered.proofs.Packages.{found-behind, Storing, store-start, store-ended, store-stopped, store-placed, store-next}
+use Rattle.numbered.proofs.Packages.{found-behind, Storing, store_start, store_ended, store_stopped, store_placed, store_next}
 use Rattle.numbered.proofs.write_packages.Statement.{statement}
 use Rattle.numbered.proofs.write_packages.Tie as tie
 use Rattle.numbered.proofs.write_packages.Reads as reads
@@ -42,9 +42,9 @@ which c = c.before.found.given.0.0
 at : Read → ℕ
 at c = gone c.before.before.before.before.before.before.before.before.before.args.run.now c.before.before.before.before.before.loop.rest.now
 
-read : (c : Read) → toldPackage (P.Package (which c)) ≡ packageAt (drop (at c) c.before.before.before.before.before.before.before.before.before.args.run.now) 0
+read : (c : Read) → told_package (P.Package (which c)) ≡ package_at (drop (at c) c.before.before.before.before.before.before.before.before.before.args.run.now) 0
 unfolding at
-read c = ap toldPackage (sym c.before.found.given.1) ∙ c.before.before.before.package-at.ensures ∙ ap (λ (l : List ℕ). packageAt l 0) c.before.before.before.before.before.loop.invariant.2.is
+read c = ap told_package (sym c.before.found.given.1) ∙ c.before.before.before.package-at.ensures ∙ ap (λ (l : List ℕ). package_at l 0) c.before.before.before.before.before.loop.invariant.2.is
 
 place : (c : Read) → Found c.before.before.before.before.before.before.before.before.before.args.run.now (at c) (moved (at c) (which c))
 place c = found-behind c.before.before.before.before.before.before.before.before.before.args.run.now (at c) c.before.before.before.before.before.loop.invariant.0 (which c) (read c)
@@ -59,12 +59,12 @@ unfolding at
 inside c = omega (arith, c.before.before.before.before.loop-test.true, c.before.before.before.before.before.loop.invariant.2.most)
 
 bytes : (c : Read) → Bytes c.before.before.before.before.before.before.before.before.before.args.run.now
-bytes c = premises-met.bytes _ (λ k. omega (arith, c.before.before.before.before.before.before.before.before.shared-slice-known.given k))
+bytes c = premises_met.bytes _ (λ k. omega (arith, c.before.before.before.before.before.before.before.before.shared-slice-known.given k))
 
 loop-holds : tie.Need-loop-init invariant-loop decreases-loop
 loop-holds c =
     let a = c.before.before.before.args in
-    (search rules, refl, left-all _, rw (none-gone a.run.now) (store-start a.marks.now a.first a.run.now a.out.now a.to))
+    (search rules, refl, left-all _, rw (none-gone a.run.now) (store_start a.marks.now a.first a.run.now a.out.now a.to))
 
 package-at-requires : tie.Need-package-at-requires invariant-loop decreases-loop
 package-at-requires c κs = search rules
@@ -82,7 +82,7 @@ returns : tie.Need-returns invariant-loop decreases-loop
 returns c =
     let v = c.before.before.before.loop in
     let a = c.before.before.before.before.before.before.before.args in
-    store-stopped a.marks.now a.first a.run.now a.out.now a.to v.out v.end v.all _ v.invariant.3 v.invariant.0 (omega (arith, c.before.before.loop-test.true, v.invariant.2.most)) c.before.package-at.result c.match.keys2 (c.before.package-at.ensures ∙ ap (λ (l : List ℕ). packageAt l 0) v.invariant.2.is)
+    store_stopped a.marks.now a.first a.run.now a.out.now a.to v.out v.end v.all _ v.invariant.3 v.invariant.0 (omega (arith, c.before.before.loop-test.true, v.invariant.2.most)) c.before.package-at.result c.match.keys2 (c.before.package-at.ensures ∙ ap (λ (l : List ℕ). package_at l 0) v.invariant.2.is)
 
 add-bit-at : tie.Need-overflow-add-bit-at invariant-loop decreases-loop
 add-bit-at c =
@@ -99,7 +99,7 @@ write-granted-requires c κs =
     let v = r.before.before.before.before.before.loop in
     let a = r.before.before.before.before.before.before.before.before.before.args in
     let i = v.invariant.3 in
-    (omega (arith, i.most, i.keeping.inside, v.invariant.0, r.before.before.before.before.before.before.before.before.before.requires.2), rw v.invariant.2.is (store-placed a.marks.now a.first a.run.now a.out.now a.to v.out v.end v.all (at r) i v.invariant.0 (inside r) (which r) (read r)))
+    (omega (arith, i.most, i.keeping.inside, v.invariant.0, r.before.before.before.before.before.before.before.before.before.requires.2), rw v.invariant.2.is (store_placed a.marks.now a.first a.run.now a.out.now a.to v.out v.end v.all (at r) i v.invariant.0 (inside r) (which r) (read r)))
 
 add-all : tie.Need-overflow-add-all invariant-loop decreases-loop
 add-all c =
@@ -128,7 +128,7 @@ loop-again c =
     let r = c.before.before.before.before.before.before in
     let v = r.before.before.before.before.before.loop in
     let a = r.before.before.before.before.before.before.before.before.before.args in
-    let i = store-next a.marks.now a.first a.run.now a.out.now a.to v.out v.end v.all (at r) v.invariant.3 v.invariant.0 (inside r) (which r) (read r) (bytes r) b.result b.ensures _ _ (rw v.invariant.2.is at w.ensures) in
+    let i = store_next a.marks.now a.first a.run.now a.out.now a.to v.out v.end v.all (at r) v.invariant.3 v.invariant.0 (inside r) (which r) (read r) (bytes r) b.result b.ensures _ _ (rw v.invariant.2.is at w.ensures) in
     (search rules, ap length i.stored ∙ simp length-sets, left-on _ _ _ v.invariant.2 (fit r), rw (more-gone _ _ _ v.invariant.2 (fit r)) i)
 
 sub-t19 : tie.Need-overflow-sub-t19 invariant-loop decreases-loop
@@ -141,7 +141,7 @@ returns-2 : tie.Need-returns-2 invariant-loop decreases-loop
 returns-2 c =
     let v = c.before.loop in
     let a = c.before.before.before.before.before.args in
-    store-ended a.marks.now a.first a.run.now a.out.now a.to v.out v.end v.all _ v.invariant.3 (omega (arith, c.loop-test.false))
+    store_ended a.marks.now a.first a.run.now a.out.now a.to v.out v.end v.all _ v.invariant.3 (omega (arith, c.loop-test.false))
 
 pub write-packages-spec : {M : Type 1} → statement M
 write-packages-spec =

@@ -1,5 +1,5 @@
 -- `purge::keep_package` meets its contract: moved down, its reserved byte and its padding zero.
-use Rattle.purge.proofs.Moves.{package-kept}
+use Rattle.purge.proofs.Moves.{package_kept}
 use borrow.Author.Rules.{rules}
 use Rattle.purge.proofs.keep_package.Statement.{statement}
 use Rattle.purge.proofs.keep_package.Tie as tie
@@ -34,7 +34,7 @@ returns c =
     let y = z.before.before.before.before.before in
     let m = y.before.before.before.before in
     let a = m.before.before.before.before in
-    package-kept a.args.s.now a.args.at a.args.to a.args.p a.requires.0 m.move_down.ensures y.put_byte.ensures z.put-zeros.ensures
+    package_kept a.args.s.now a.args.at a.args.to a.args.p a.requires.0 m.move_down.ensures y.put_byte.ensures z.put-zeros.ensures
 
 pub keep-package-spec : {M : Type 1} → statement M
 keep-package-spec =

@@ -9,14 +9,14 @@ use lib.Seq.{length-take-le}
 use Rattle.message.specs.declared.Mdid.{Mdid}
 use Rattle.message.specs.declared.Package.{Package}
 use Rattle.message.specs.declared.PackageRead.TheVariants as P
-use Rattle.message.specs.Answers.{toldPackage}
+use Rattle.message.specs.Answers.{told_package}
 use Rattle.rules.specs.Bytes.{Bytes}
-use Rattle.rules.specs.Message.{isSimulated}
-use Rattle.rules.specs.Walk.{packageAt}
-use Rattle.sheet.specs.Table.{rowsIn, nearOf, nearGrants}
-use Rattle.sheet.proofs.TableRows.{near-laid}
-use Rattle.numbered.specs.Parts.{messageBy}
-use Rattle.purge.proofs.Sliding.{Sliding, slide-start, slide-ended, slide-stopped, slide-standing, behind, slide-on, slide-still, slide-next}
+use Rattle.rules.specs.Message.{is_simulated}
+use Rattle.rules.specs.Walk.{package_at}
+use Rattle.sheet.specs.Table.{rows_in, near_of, near_grants}
+use Rattle.sheet.proofs.TableRows.{near_laid}
+use Rattle.numbered.specs.Parts.{message_by}
+use Rattle.purge.proofs.Sliding.{Sliding, slide_start, slide_ended, slide_stopped, slide_standing, behind, slide_on, slide_still, slide_next}
 use Rattle.purge.proofs.keep_packages.Statement.{statement}
 use Rattle.purge.proofs.keep_packages.Tie as tie
 use Rattle.purge.proofs.keep_packages.Reads as reads
@@ -30,7 +30,7 @@ use Rattle.sheet.proofs.source_of.Reads as source_of
 
 abbrev invariant-loop : tie.invariant-loop
 invariant-loop s₀ h from to table near many left₀ at₀ s left at =
-    (many ≤ length near) × (take many near ≡ nearOf h.id.0 (isSimulated h.flags) table) × Sliding (rowsIn table) (messageBy h) from to s₀ s left at
+    (many ≤ length near) × (take many near ≡ near_of h.id.0 (is_simulated h.flags) table) × Sliding (rows_in table) (message_by h) from to s₀ s left at
 
 abbrev decreases-loop : tie.decreases-loop
 decreases-loop s₀ h from to table near many left₀ at₀ s left at = length s₀ - at
@@ -42,8 +42,8 @@ Read = lts.After-known-told (source_of.Asked, source_of.Learnt, near-rows.Asked,
 abbrev which : Read → Package
 which c = c.before.found.given.0.0
 
-read : (c : Read) → toldPackage (P.Package (which c)) ≡ packageAt c.before.before.before.before.before.before.loop.s c.before.before.before.before.before.before.loop.at
-read c = ap toldPackage (sym c.before.found.given.1) ∙ c.before.before.before.package-at.ensures
+read : (c : Read) → told_package (P.Package (which c)) ≡ package_at c.before.before.before.before.before.before.loop.s c.before.before.before.before.before.before.loop.at
+read c = ap told_package (sym c.before.found.given.1) ∙ c.before.before.before.package-at.ensures
 
 bytes : (c : Read) → Bytes c.before.before.before.before.before.before.before.before.before.before.before.before.before.before.before.args.s.now
 bytes c = record { below = λ i. omega (arith, c.before.before.before.before.before.before.before.before.before.before.before.before.before.before.slice-known.given i) }
@@ -59,8 +59,8 @@ loop-holds c =
     let a = c.before.before.before.before.before.before.before.before in
     let n = c.before.before.near-rows in
     let m = c.before.before.before.before.source_of.ensures in
-    let (l, e) = near-laid a.args.table.now a.args.near.now _ n.result _ a.args.h.id.0 _ (isSimulated a.args.h.flags) (ap (λ (x : Mdid). x.0) m.0) m.1 a.requires.3 a.requires.4 n.ensures.0 n.ensures.1 in
-    (l, e, slide-start a.args.table.now a.args.h a.args.from a.args.to a.args.s.now a.requires.0 a.requires.1 a.requires.2)
+    let (l, e) = near_laid a.args.table.now a.args.near.now _ n.result _ a.args.h.id.0 _ (is_simulated a.args.h.flags) (ap (λ (x : Mdid). x.0) m.0) m.1 a.requires.3 a.requires.4 n.ensures.0 n.ensures.1 in
+    (l, e, slide_start a.args.table.now a.args.h a.args.from a.args.to a.args.s.now a.requires.0 a.requires.1 a.requires.2)
 
 package-at-requires : tie.Need-package-at-requires invariant-loop decreases-loop
 package-at-requires c κs = search rules
@@ -78,7 +78,7 @@ returns : tie.Need-returns invariant-loop decreases-loop
 returns c =
     let v = c.before.before.before.before.loop in
     let a = c.before.before.before.before.before.before.before.before.before.before.before.before.before in
-    slide-stopped a.args.table.now a.args.h a.args.from a.args.to a.args.s.now a.requires.0 a.requires.1 a.requires.2 v.s v.left v.at v.invariant.2 (search rules) c.before.package-at.result c.match.keys2 c.before.package-at.ensures
+    slide_stopped a.args.table.now a.args.h a.args.from a.args.to a.args.s.now a.requires.0 a.requires.1 a.requires.2 v.s v.left v.at v.invariant.2 (search rules) c.before.package-at.result c.match.keys2 c.before.package-at.ensures
 
 package-time-requires : tie.Need-package-time-requires invariant-loop decreases-loop
 package-time-requires c κs = search rules
@@ -103,7 +103,7 @@ keep-unless-requires c κs =
     let r = c.before.before.before.before.before.before in
     let v = r.before.before.before.before.before.before.loop in
     let a = r.before.before.before.before.before.before.before.before.before.before.before.before.before.before.before in (
-      slide-standing a.args.table.now a.args.h a.args.from a.args.to a.args.s.now a.requires.0 a.requires.1 a.requires.2 v.s v.left v.at v.invariant.2 (search rules) (which r) (read r),
+      slide_standing a.args.table.now a.args.h a.args.from a.args.to a.args.s.now a.requires.0 a.requires.1 a.requires.2 v.s v.left v.at v.invariant.2 (search rules) (which r) (read r),
       behind a.args.table.now a.args.h a.args.from a.args.to a.args.s.now a.requires.0 a.requires.1 a.requires.2 v.s v.left v.at v.invariant.2,
       omega (arith, v.invariant.2.small, v.invariant.2.place, v.invariant.2.inside, a.requires.2),
       omega (arith, v.invariant.2.few, v.invariant.2.place, v.invariant.2.inside, a.requires.2),
@@ -114,7 +114,7 @@ loop-less c =
     let r = c.before.before.before.before.before.before.before.before.before in
     let v = r.before.before.before.before.before.before.loop in
     let a = r.before.before.before.before.before.before.before.before.before.before.before.before.before.before.before in
-    omega (arith, v.invariant.2.long, slide-on a.args.table.now a.args.h a.args.from a.args.to a.args.s.now a.requires.0 a.requires.1 a.requires.2 v.s v.left v.at v.invariant.2 (search rules) (which r) (read r), slide-still a.args.table.now a.args.h a.args.from a.args.to a.args.s.now a.requires.0 a.requires.1 a.requires.2 v.s v.left v.at v.invariant.2 (search rules) (which r) (read r))
+    omega (arith, v.invariant.2.long, slide_on a.args.table.now a.args.h a.args.from a.args.to a.args.s.now a.requires.0 a.requires.1 a.requires.2 v.s v.left v.at v.invariant.2 (search rules) (which r) (read r), slide_still a.args.table.now a.args.h a.args.from a.args.to a.args.s.now a.requires.0 a.requires.1 a.requires.2 v.s v.left v.at v.invariant.2 (search rules) (which r) (read r))
 
 loop-again : tie.Need-loop-preserved invariant-loop decreases-loop
 loop-again c =
@@ -122,8 +122,8 @@ loop-again c =
     let r = c.before.before.before.before.before.before.before.before.before in
     let v = r.before.before.before.before.before.before.loop in
     let a = r.before.before.before.before.before.before.before.before.before.before.before.before.before.before.before in
-    let asked = g.ensures ∙ ap₂ (λ (t : ℕ) (l : List ℕ). nearGrants (which r).id.0 t l) c.before.before.before.before.before.before.before.package-time.ensures v.invariant.1 in
-    (v.invariant.0, v.invariant.1, slide-next a.args.table.now a.args.h a.args.from a.args.to a.args.s.now a.requires.0 a.requires.1 a.requires.2 v.s v.left v.at v.invariant.2 (search rules) (which r) (read r) _ _ (bytes r) g.result asked c.before.before.keep-unless.ensures)
+    let asked = g.ensures ∙ ap₂ (λ (t : ℕ) (l : List ℕ). near_grants (which r).id.0 t l) c.before.before.before.before.before.before.before.package-time.ensures v.invariant.1 in
+    (v.invariant.0, v.invariant.1, slide_next a.args.table.now a.args.h a.args.from a.args.to a.args.s.now a.requires.0 a.requires.1 a.requires.2 v.s v.left v.at v.invariant.2 (search rules) (which r) (read r) _ _ (bytes r) g.result asked c.before.before.keep-unless.ensures)
 
 same-length-3 : tie.Need-same-length-3 invariant-loop decreases-loop
 same-length-3 c = c.before.loop.invariant.2.long
@@ -135,7 +135,7 @@ returns-2 : tie.Need-returns-2 invariant-loop decreases-loop
 returns-2 c =
     let v = c.before.loop in
     let a = c.before.before.before.before.before.before.before.before.before.before in
-    slide-ended a.args.table.now a.args.h a.args.from a.args.to a.args.s.now a.requires.0 a.requires.1 a.requires.2 v.s v.left v.at v.invariant.2 (search rules)
+    slide_ended a.args.table.now a.args.h a.args.from a.args.to a.args.s.now a.requires.0 a.requires.1 a.requires.2 v.s v.left v.at v.invariant.2 (search rules)
 
 pub keep-packages-spec : {M : Type 1} → statement M
 keep-packages-spec =

@@ -8,8 +8,8 @@ use lib.ListN.{length, take, length-replicate}
 use lib.Seq.{length-take-le}
 use Rattle.rules.specs.Outcome.{good}
 use Rattle.rules.specs.Sheet as rows
-use Rattle.message.specs.Answers.{toldCheck}
-use Rattle.sheet.specs.Table.{rowsIn}
+use Rattle.message.specs.Answers.{told_check}
+use Rattle.sheet.specs.Table.{rows_in}
 use Rattle.sheet.proofs.TableRows.{rows-read, sheet-refused as read-refused}
 use Rattle.purge.proofs.Answers.{sheet-refused, recording-refused, short, used, all_done}
 use Rattle.purge.proofs.purge.Statement.{statement}
@@ -32,7 +32,7 @@ abbrev tableIn : Read → List ℕ
 tableIn c = c.before.before.before.before.read_table.new.1.0
 
 abbrev sheetIn : Read → List rows.Row
-sheetIn c = rowsIn (take (7 * many c) (tableIn c))
+sheetIn c = rows_in (take (7 * many c) (tableIn c))
 
 read : (c : Read) → (7 * many c ≤ 224) × (7 * many c ≤ length (tableIn c)) × (rows.sheet c.before.before.before.before.before.before.before.before.args.sheet.now ≡ good (sheetIn c))
 read c = let q = c.before.before.before.before.read_table in rows-read _ _ _ q.result q.ensures.0 q.ensures.1 (length-replicate {A = ℕ} 224 0) _ c.before.read2.given.1
@@ -71,13 +71,13 @@ keep-messages-requires : tie.Need-keep-messages-requires
 keep-messages-requires c κs =
     let r = c.before.before.before.before.before.before in
     let a = r.before.before.before.before.before.before.before.before in
-    (short a.args.buffer.now a.args.sheet.now (sheetIn r) (read r).2 _ (ap toldCheck (sym c.before.before.enum_told.given.1) ∙ c.before.before.before.before.check.ensures), omega (arith, (read r).0, length-take-le (7 * many r) (tableIn r) (read r).1))
+    (short a.args.buffer.now a.args.sheet.now (sheetIn r) (read r).2 _ (ap told_check (sym c.before.before.enum_told.given.1) ∙ c.before.before.before.before.check.ensures), omega (arith, (read r).0, length-take-le (7 * many r) (tableIn r) (read r).1))
 
 sub-put-zeros : tie.Need-overflow-sub-put-zeros
 sub-put-zeros c =
     let r = c.before.before.before.before.before.before.before.before.before.before in
     let a = r.before.before.before.before.before.before.before.before in
-    used a.args.buffer.now a.args.sheet.now (sheetIn r) (read r).2 _ (ap toldCheck (sym c.before.before.before.before.before.before.enum_told.given.1) ∙ c.before.before.before.before.before.before.before.before.check.ensures) _ _ c.before.before.before.keep-messages.ensures
+    used a.args.buffer.now a.args.sheet.now (sheetIn r) (read r).2 _ (ap told_check (sym c.before.before.before.before.before.before.enum_told.given.1) ∙ c.before.before.before.before.before.before.before.before.check.ensures) _ _ c.before.before.before.keep-messages.ensures
 
 put-zeros-requires : tie.Need-put-zeros-requires
 put-zeros-requires c κs = search rules
@@ -95,7 +95,7 @@ returns-2 : tie.Need-returns-2
 returns-2 c =
     let r = c.before.before.before.before.before in
     let a = r.before.before.before.before.before.before.before.before in
-    recording-refused a.args.buffer.now a.args.sheet.now (sheetIn r) (read r).2 c.before.checked.given.0.0 (ap toldCheck (sym c.before.checked.given.1) ∙ c.before.before.before.check.ensures)
+    recording-refused a.args.buffer.now a.args.sheet.now (sheetIn r) (read r).2 c.before.checked.given.0.0 (ap told_check (sym c.before.checked.given.1) ∙ c.before.before.before.check.ensures)
 
 same-length-2 : tie.Need-same-length-2
 same-length-2 c = search rules
@@ -104,7 +104,7 @@ returns-3 : tie.Need-returns-3
 returns-3 c =
     let r = c.before.before.before.before.before.before.before.before.before.before.before.before.before in
     let a = r.before.before.before.before.before.before.before.before in
-    all_done a.args.buffer.now a.args.sheet.now (sheetIn r) (read r).2 _ (ap toldCheck (sym c.before.before.before.before.before.before.before.before.before.enum_told.given.1) ∙ c.before.before.before.before.before.before.before.before.before.before.before.check.ensures) _ _ c.before.before.before.before.before.before.keep-messages.ensures _ c.before.before.put-zeros.ensures
+    all_done a.args.buffer.now a.args.sheet.now (sheetIn r) (read r).2 _ (ap told_check (sym c.before.before.before.before.before.before.before.before.before.enum_told.given.1) ∙ c.before.before.before.before.before.before.before.before.before.before.before.check.ensures) _ _ c.before.before.before.before.before.before.keep-messages.ensures _ c.before.before.put-zeros.ensures
 
 pub purge-spec : {M : Type 1} → statement M
 purge-spec =

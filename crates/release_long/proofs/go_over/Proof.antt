@@ -2,15 +2,15 @@
 use Rattle.std.proofs.Common.{◌≡◌, ℕ, ◌+◌, ◌-◌, ◌*◌, ◌≤◌, length, sym, ◌∙◌, subst, arith, rules}
 use lib.ListN.{length-replicate}
 use Rattle.numbered.specs.Numbering.{State}
-use Rattle.step.specs.Told.{stateIn}
+use Rattle.step.specs.Told.{state_in}
 use Rattle.release_long.specs.Keeps.{fresh, Led}
 use borrow.Rule.Slice.PartMut.{same_len_mid}
-use Rattle.release_long.proofs.Keeping.{fresh-fits, led-none, led_on, taken, whole-on, passed-unread, passed-unwritten}
+use Rattle.release_long.proofs.Keeping.{fresh-fits, led_none, led_on, taken, whole-on, passed-unread, passed-unwritten}
 use Rattle.release_long.proofs.go_over.Statement.{statement}
 use Rattle.release_long.proofs.go_over.Tie as tie
 
 abbrev invariant-loop : tie.invariant-loop
-invariant-loop recording sheet writes tells window₀ out₀ used₀ state₀ done₀ turns₀ window out used state done turns = (turns ≤ 1000000000000) × (done.place + turns * 65536 ≤ 65536000000000000) × (length window ≡ 65537) × (length out ≡ 524288) × (used ≤ 458752) × Led sheet writes fresh (stateIn state) done.place
+invariant-loop recording sheet writes tells window₀ out₀ used₀ state₀ done₀ turns₀ window out used state done turns = (turns ≤ 1000000000000) × (done.place + turns * 65536 ≤ 65536000000000000) × (length window ≡ 65537) × (length out ≡ 524288) × (used ≤ 458752) × Led sheet writes fresh (state_in state) done.place
 
 abbrev decreases-loop : tie.decreases-loop
 decreases-loop recording sheet writes tells window₀ out₀ used₀ state₀ done₀ turns₀ window out used state done turns = turns
@@ -25,7 +25,7 @@ loop-holds : tie.Need-loop-init invariant-loop decreases-loop
 loop-holds c =
     let a = c.before.before.before.args in
     let place = sym c.nothing-done.ensures in
-    let led = subst (λ (n : ℕ). Led a.sheet.now a.writes fresh fresh n) place (led-none _ _ fresh fresh-fits) in (
+    let led = subst (λ (n : ℕ). Led a.sheet.now a.writes fresh fresh n) place (led_none _ _ fresh fresh-fits) in (
       omega arith,
       omega (arith, place),
       length-replicate {A = ℕ} 65537 0,
@@ -75,7 +75,7 @@ returns-3 : tie.Need-returns-3 invariant-loop decreases-loop
 returns-3 c =
     let l = c.before.before.before.before.before.before.before.before.before.before.before.before.before.loop in
     let a = c.before.before.before.before.before.before.before.before.before.before.before.before.before.before.before.before.before.args in
-    whole-on a.sheet.now a.writes l.done (stateIn l.state) l.invariant.5
+    whole-on a.sheet.now a.writes l.done (state_in l.state) l.invariant.5
 
 with-part-requires : tie.Need-with-part-requires invariant-loop decreases-loop
 with-part-requires c κs =

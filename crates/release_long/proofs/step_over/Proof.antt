@@ -1,6 +1,6 @@
 -- `release_long::step_over` meets its contract.
 use Rattle.std.proofs.Common.{arith, rules}
-use Rattle.release_long.proofs.Keeping.{stepped-on, measured-on}
+use Rattle.release_long.proofs.Keeping.{stepped_on_lem, measured-on}
 use Rattle.release_long.proofs.step_over.Statement.{statement}
 use Rattle.release_long.proofs.step_over.Tie as tie
 
@@ -13,7 +13,7 @@ same_length c = search rules
 returns : tie.Need-returns
 returns c =
     let s = c.before.before.before.before.before.before.before.before in
-    stepped-on s.args.part.now s.args.sheet.now s.args.out.now _ s.args.state _ s.args.writes c.before.before.before.before.if1.true s.requires c.before.before.step.ensures
+    stepped_on_lem s.args.part.now s.args.sheet.now s.args.out.now _ s.args.state _ s.args.writes c.before.before.before.before.if1.true s.requires c.before.before.step.ensures
 
 measure-requires : tie.Need-measure-requires
 measure-requires c κs = search rules

@@ -9,8 +9,8 @@ use Rattle.rules.specs.Outcome.{good}
 use Rattle.rules.specs.Packages.{cut}
 use Rattle.message.specs.declared.Header.{Header}
 use Rattle.message.specs.declared.HeaderRead.TheVariants as header
-use Rattle.message.specs.Answers.{toldCount, toldHeader, frontAt, payloadFrom, next_from}
-use Rattle.message.proofs.Fronts.{front-bad, front-good, front-stopped, Fronted, fronted, front-uncut, front-count, front-message}
+use Rattle.message.specs.Answers.{told_count, told_header, front_at, payload_from, next_from}
+use Rattle.message.proofs.Fronts.{front-bad, front-good, front_stopped, Fronted, fronted, front-uncut, front-count, front-message}
 use Rattle.salvage.specs.Told.{end_of}
 use Rattle.salvage.proofs.Ending.{uncounted, counted}
 use Rattle.salvage.proofs.end_at.Statement.{statement}
@@ -20,15 +20,15 @@ use Rattle.salvage.proofs.end_at.Tie as tie
 abbrev H : tie.After-header-in → Header
 H c = c.header-in.result
 
-read : (c : tie.After-header-in) → toldHeader (header.Header (H c)) ≡ frontAt c.before.before.before.before.before.before.args.s.now c.before.before.before.before.before.before.args.at
-read c = front-good _ _ _ _ (ap toldCount (sym c.before.before.run.given.1) ∙ c.before.before.before.before.front-run.ensures) c.header-in.ensures
+read : (c : tie.After-header-in) → told_header (header.Header (H c)) ≡ front_at c.before.before.before.before.before.before.args.s.now c.before.before.before.before.before.before.args.at
+read c = front-good _ _ _ _ (ap told_count (sym c.before.before.run.given.1) ∙ c.before.before.before.before.front-run.ensures) c.header-in.ensures
 
 places : (c : tie.After-header-in) → Fronted c.before.before.before.before.before.before.args.s.now c.before.before.before.before.before.before.args.at (H c)
 places c = fronted _ _ (H c) (read c)
 
 -- its packages were counted
-packages : (c : tie.After-known-told2) → (cs : List (List ℕ)) × (cut 0 (take (next_from c.before.before.before.before.before.before.before.before.before.before.before.before.before.args.at (H c.before.before.before.before.before.before.before) - payloadFrom c.before.before.before.before.before.before.before.before.before.before.before.before.before.args.at (H c.before.before.before.before.before.before.before)) (drop (payloadFrom c.before.before.before.before.before.before.before.before.before.before.before.before.before.args.at (H c.before.before.before.before.before.before.before)) c.before.before.before.before.before.before.before.before.before.before.before.before.before.args.s.now)) ≡ good cs) × (length cs ≡ c.before.packages.given.0.0)
-packages c = counted _ (places c.before.before.before.before.before.before.before).small (ap toldCount (sym c.before.packages.given.1) ∙ c.before.before.before.count-packages.ensures)
+packages : (c : tie.After-known-told2) → (cs : List (List ℕ)) × (cut 0 (take (next_from c.before.before.before.before.before.before.before.before.before.before.before.before.before.args.at (H c.before.before.before.before.before.before.before) - payload_from c.before.before.before.before.before.before.before.before.before.before.before.before.before.args.at (H c.before.before.before.before.before.before.before)) (drop (payload_from c.before.before.before.before.before.before.before.before.before.before.before.before.before.args.at (H c.before.before.before.before.before.before.before)) c.before.before.before.before.before.before.before.before.before.before.before.before.before.args.s.now)) ≡ good cs) × (length cs ≡ c.before.packages.given.0.0)
+packages c = counted _ (places c.before.before.before.before.before.before.before).small (ap told_count (sym c.before.packages.given.1) ∙ c.before.before.before.count-packages.ensures)
 
 front-run-requires : tie.Need-front-run-requires
 front-run-requires c κs = search rules
@@ -40,7 +40,7 @@ enum_told : tie.Need-enum-told
 enum_told c = search rules
 
 returns : tie.Need-returns
-returns c = ap end_of (front-stopped _ _ (front-bad _ _ (ap toldCount (sym c.enum_told.given.1) ∙ c.before.before.front-run.ensures)))
+returns c = ap end_of (front_stopped _ _ (front-bad _ _ (ap told_count (sym c.enum_told.given.1) ∙ c.before.before.front-run.ensures)))
 
 header-in-requires : tie.Need-header-in-requires
 header-in-requires c κs = search rules
@@ -84,7 +84,7 @@ enum-told-2 c = search rules
 returns-2 : tie.Need-returns-2
 returns-2 c =
     let h = c.before.before.before.before.before.before in
-    ap end_of (front-uncut _ _ (H h) (read h) (uncounted _ (places h).small (ap toldCount (sym c.enum-told2.given.1) ∙ c.before.before.count-packages.ensures)))
+    ap end_of (front-uncut _ _ (H h) (read h) (uncounted _ (places h).small (ap told_count (sym c.enum-told2.given.1) ∙ c.before.before.count-packages.ensures)))
 
 add-options : tie.Need-overflow-add-options
 add-options c = let f = places c.before.before.before.before.before.before.before in omega (arith, f.whole, f.within, f.forth, f.behind)

@@ -4,13 +4,13 @@ use mathlib.Core.Path.{◌≡◌, sym, ◌∙◌}
 use native.Mathlib.Omega.{arith}
 use borrow.Author.Rules.{rules}
 use lib.ListN.{length, drop}
-use Rattle.salvage.specs.Told.{skipsEnd}
+use Rattle.salvage.specs.Told.{skips_end}
 use Rattle.salvage.proofs.Skips.{first, goes_on, ends-here, ended}
 use Rattle.salvage.proofs.skips_end.Statement.{statement}
 use Rattle.salvage.proofs.skips_end.Tie as tie
 
 abbrev invariant-loop : tie.invariant-loop
-invariant-loop s at end₀ end = (end ≤ length s) × (skipsEnd 4 at (drop at s) ≡ skipsEnd 0 end (drop end s))
+invariant-loop s at end₀ end = (end ≤ length s) × (skips_end 4 at (drop at s) ≡ skips_end 0 end (drop end s))
 
 abbrev decreases-loop : tie.decreases-loop
 decreases-loop s at end₀ end = length s - end

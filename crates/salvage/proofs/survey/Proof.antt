@@ -5,11 +5,11 @@ use Prim.Native.Nat.{ℕ, ◌-◌, ◌≤◌, ◌<◌}
 use native.Mathlib.Omega.{arith}
 use lib.ListN.{length, drop}
 use mathlib.Core.List.{List}
-use Rattle.salvage.specs.Told.{skipsEnd, slotOf, start_of}
+use Rattle.salvage.specs.Told.{skips_end, slot_of, start_of}
 use Rattle.salvage.proofs.Pieces.{Lost}
 use Rattle.salvage.proofs.Skips.{inside}
 use Rattle.salvage.proofs.Ending.{kept-end, lost-end}
-use Rattle.salvage.proofs.Surveying.{Surveying, KeptAt, survey-start, survey-kept, start-before, slot-most, survey-skips, survey-full, survey-ended, survey-large}
+use Rattle.salvage.proofs.Surveying.{Surveying, KeptAt, survey_start, survey_kept, start-before, slot_most, survey_skips, survey_full, survey_ended, survey_large}
 use Rattle.salvage.proofs.survey.Statement.{statement}
 use Rattle.salvage.proofs.survey.Tie as tie
 
@@ -35,24 +35,24 @@ module _ (c : tie.After-enum-told invariant-loop decreases-loop) where
   lost = lost-end input place c.before.before.before.before.loop.invariant.0 (sym c.enum_told.given.1 ∙ c.before.before.end-at.ensures)
 
   -- the skips end behind the place, and the stretch begins at the place or before
-  behind : (start_of c.before.before.before.before.loop.count c.before.before.before.before.loop.last c.before.before.before.before.loop.end place ≤ place) × ((place < skipsEnd 4 place (drop place input)) × (skipsEnd 4 place (drop place input) ≤ length input))
+  behind : (start_of c.before.before.before.before.loop.count c.before.before.before.before.loop.last c.before.before.before.before.loop.end place ≤ place) × ((place < skips_end 4 place (drop place input)) × (skips_end 4 place (drop place input) ≤ length input))
   behind = (start-before _ _ _ _ _ _ _ _ c.before.before.before.before.loop.invariant.1 c.before.before.before.loop-test.true lost, inside input place c.before.before.before.loop-test.true)
 
 -- it is not the 65th
-room : (c : tie.Else2 invariant-loop decreases-loop) → slotOf c.before.before.before.before.before.before.loop.count c.before.before.before.before.before.before.loop.end c.before.before.before.before.before.before.loop.at < 64
-room c = let o = slot-most _ _ _ _ _ _ _ _ c.before.before.before.before.before.before.loop.invariant.1 c.before.before.before.before.before.loop-test.true (lost c.before.before) in omega (arith, o, c.before.slot_of.ensures)
+room : (c : tie.Else2 invariant-loop decreases-loop) → slot_of c.before.before.before.before.before.before.loop.count c.before.before.before.before.before.before.loop.end c.before.before.before.before.before.before.loop.at < 64
+room c = let o = slot_most _ _ _ _ _ _ _ _ c.before.before.before.before.before.before.loop.invariant.1 c.before.before.before.before.before.loop-test.true (lost c.before.before) in omega (arith, o, c.before.slot_of.ensures)
 
 refuse-requires : tie.Need-refuse-requires invariant-loop decreases-loop
 refuse-requires c κs = tt
 
 returns : tie.Need-returns invariant-loop decreases-loop
-returns c = c.refuse.ensures ∙ survey-large _ c.before.if1.true
+returns c = c.refuse.ensures ∙ survey_large _ c.before.if1.true
 
 no-stretch-requires : tie.Need-no-stretch-requires invariant-loop decreases-loop
 no-stretch-requires c κs = tt
 
 loop-holds : tie.Need-loop-init invariant-loop decreases-loop
-loop-holds c = rw c.no-stretch.ensures (c.before.if1.false, survey-start _)
+loop-holds c = rw c.no-stretch.ensures (c.before.if1.false, survey_start _)
 
 end-at-requires : tie.Need-end-at-requires invariant-loop decreases-loop
 end-at-requires c κs = tt
@@ -75,7 +75,7 @@ loop-less c = let k = kept c in omega (arith, k.next, k.least, k.inside)
 loop-again : tie.Need-loop-preserved invariant-loop decreases-loop
 loop-again c =
     let v = c.before.before.before.before.before.loop in
-    (v.invariant.0, survey-kept _ _ _ _ _ _ _ _ v.invariant.1 c.before.before.before.before.loop-test.true _ (kept c))
+    (v.invariant.0, survey_kept _ _ _ _ _ _ _ _ v.invariant.1 c.before.before.before.before.loop-test.true _ (kept c))
 
 enum_told : tie.Need-enum-told invariant-loop decreases-loop
 enum_told c = search rules
@@ -87,7 +87,7 @@ refuse-requires-2 : tie.Need-refuse-requires-2 invariant-loop decreases-loop
 refuse-requires-2 c κs = tt
 
 returns-2 : tie.Need-returns-2 invariant-loop decreases-loop
-returns-2 c = c.refuse2.ensures ∙ survey-full _ _ _ _ _ _ _ _ c.before.before.before.before.before.before.before.loop.invariant.1 c.before.before.before.before.before.before.loop-test.true (lost c.before.before.before) (sym c.before.before.slot_of.ensures ∙ c.before.if2.true) c.before.before.before.before.before.before.before.loop.invariant.0
+returns-2 c = c.refuse2.ensures ∙ survey_full _ _ _ _ _ _ _ _ c.before.before.before.before.before.before.before.loop.invariant.1 c.before.before.before.before.before.before.loop-test.true (lost c.before.before.before) (sym c.before.before.slot_of.ensures ∙ c.before.if2.true) c.before.before.before.before.before.before.before.loop.invariant.0
 
 start-of-requires : tie.Need-start-of-requires invariant-loop decreases-loop
 start-of-requires c κs = tt
@@ -113,10 +113,10 @@ loop-less-2 c = let (a, b) = behind c.before.before.before.before.before in omeg
 loop-again-2 : tie.Need-loop-preserved-2 invariant-loop decreases-loop
 loop-again-2 c =
     let v = c.before.before.before.before.before.before.before.before.before.loop in
-    (v.invariant.0, rw (c.stretch-of.ensures, c.before.skips-end.ensures, c.before.before.before.before.slot_of.ensures, c.before.before.start_of_lem.ensures) (survey-skips _ _ _ _ _ _ _ _ v.invariant.1 c.before.before.before.before.before.before.before.before.loop-test.true (lost c.before.before.before.before.before) (room c.before.before.before)))
+    (v.invariant.0, rw (c.stretch-of.ensures, c.before.skips-end.ensures, c.before.before.before.before.slot_of.ensures, c.before.before.start_of_lem.ensures) (survey_skips _ _ _ _ _ _ _ _ v.invariant.1 c.before.before.before.before.before.before.before.before.loop-test.true (lost c.before.before.before.before.before) (room c.before.before.before)))
 
 returns-3 : tie.Need-returns-3 invariant-loop decreases-loop
-returns-3 c = let v = c.before.loop in survey-ended _ _ _ _ _ _ _ _ v.invariant.1 v.invariant.0 (search rules)
+returns-3 c = let v = c.before.loop in survey_ended _ _ _ _ _ _ _ _ v.invariant.1 v.invariant.0 (search rules)
 
 pub survey-spec : {M : Type 1} → statement M
 survey-spec =

@@ -3,7 +3,7 @@ use borrow.Author.Rules.{rules}
 use Prim.Native.Nat.{◌-◌}
 use native.Mathlib.Omega.{arith}
 use lib.ListN.{length}
-use Rattle.sheet.proofs.Table.{Asked, ask-start, ask-next, ask-end}
+use Rattle.sheet.proofs.Table.{Asked, ask_start, ask_next, ask_end}
 use Rattle.sheet.proofs.ask_near.Statement.{statement}
 use Rattle.sheet.proofs.ask_near.Tie as tie
 
@@ -14,7 +14,7 @@ abbrev decreases-loop : tie.decreases-loop
 decreases-loop near p t granted₀ i₀ granted i = length near - i
 
 loop-holds : tie.Need-loop-init invariant-loop decreases-loop
-loop-holds c = ask-start _ _ _
+loop-holds c = ask_start _ _ _
 
 sub-loop : tie.Need-overflow-sub-loop invariant-loop decreases-loop
 sub-loop c = search rules
@@ -62,10 +62,10 @@ loop-less : tie.Need-loop-smaller invariant-loop decreases-loop
 loop-less c = omega arith
 
 loop-again : tie.Need-loop-preserved invariant-loop decreases-loop
-loop-again c = rw c.within.ensures (ask-next _ _ _ _ _ c.before.before.before.before.before.before.loop.invariant (search rules))
+loop-again c = rw c.within.ensures (ask_next _ _ _ _ _ c.before.before.before.before.before.before.loop.invariant (search rules))
 
 returns : tie.Need-returns invariant-loop decreases-loop
-returns c = ask-end _ _ _ _ _ c.before.loop.invariant (search rules)
+returns c = ask_end _ _ _ _ _ c.before.loop.invariant (search rules)
 
 pub ask-near-spec : {M : Type 1} → statement M
 ask-near-spec =

@@ -9,7 +9,7 @@ use Rattle.rules.specs.Outcome.{good}
 use Rattle.rules.specs.Sheet as rules
 use Rattle.rules.proofs.Outcomes.{step, stop}
 use Rattle.sheet.specs.Reading.{ReadsRow}
-use Rattle.sheet.proofs.Reading.{Through, through-start, through-next, through-bad, through-end, room, told-there, wrong-sized}
+use Rattle.sheet.proofs.Reading.{Through, through_start, through_next, through_bad, through_end, room, told-there, wrong-sized}
 use Rattle.sheet.proofs.count_rows.Statement.{statement}
 use Rattle.sheet.proofs.count_rows.Tie as tie
 
@@ -29,7 +29,7 @@ returns : tie.Need-returns invariant-loop decreases-loop
 returns c = c.refuse-table.ensures ∙ sym (stop _ _ (wrong-sized _ (sym c.before.before.wrong_size.ensures ∙ c.before.if1.true)))
 
 loop-holds : tie.Need-loop-init invariant-loop decreases-loop
-loop-holds c = ([], through-start _ (sym c.before.wrong_size.ensures ∙ c.if1.false))
+loop-holds c = ([], through_start _ (sym c.before.wrong_size.ensures ∙ c.if1.false))
 
 sub-read-row : tie.Need-overflow-sub-read-row invariant-loop decreases-loop
 sub-read-row c = omega arith
@@ -52,7 +52,7 @@ refuse-table-requires-2 c κs = search rules
 returns-2 : tie.Need-returns-2 invariant-loop decreases-loop
 returns-2 c =
     let v = c.before.before.before.before.before.before.loop in
-    c.refuse-table2.ensures ∙ sym (stop _ _ (through-bad _ _ _ v.invariant.1 (search rules) (told-there _ _ _ v.invariant.1 (search rules) (subst (ReadsRow _) c.before.enum_told.given.1 c.before.before.before.read-row.ensures))))
+    c.refuse-table2.ensures ∙ sym (stop _ _ (through_bad _ _ _ v.invariant.1 (search rules) (told-there _ _ _ v.invariant.1 (search rules) (subst (ReadsRow _) c.before.enum_told.given.1 c.before.before.before.read-row.ensures))))
 
 enum-told-2 : tie.Need-enum-told-2 invariant-loop decreases-loop
 enum-told-2 c = search rules
@@ -68,10 +68,10 @@ loop-again c =
     let g = c.enum-told2.given in
     let r = c.before.before.read-row.ensures in
     let v = c.before.before.before.before.before.loop in
-    (_, through-next _ _ _ v.invariant.1 (search rules) _ (told-there _ _ _ v.invariant.1 (search rules) (subst (ReadsRow _) g.1 r)))
+    (_, through_next _ _ _ v.invariant.1 (search rules) _ (told-there _ _ _ v.invariant.1 (search rules) (subst (ReadsRow _) g.1 r)))
 
 returns-3 : tie.Need-returns-3 invariant-loop decreases-loop
-returns-3 c = let v = c.before.loop in sym (step _ _ (through-end _ _ _ v.invariant.1 (search rules)) (ap good (omega arith)))
+returns-3 c = let v = c.before.loop in sym (step _ _ (through_end _ _ _ v.invariant.1 (search rules)) (ap good (omega arith)))
 
 pub count-rows-spec : {M : Type 1} → statement M
 count-rows-spec =

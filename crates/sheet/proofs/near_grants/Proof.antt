@@ -1,7 +1,7 @@
 -- `sheet::near_grants` meets its contract: one near row is asked alone.
 use mathlib.Core.Path.{◌∙◌}
 use borrow.Author.Rules.{rules}
-use Rattle.sheet.proofs.Table.{ask-one}
+use Rattle.sheet.proofs.Table.{ask_one}
 use Rattle.sheet.proofs.near_grants.Statement.{statement}
 use Rattle.sheet.proofs.near_grants.Tie as tie
 
@@ -24,7 +24,7 @@ within-requires : tie.Need-within-requires
 within-requires c κs = search rules
 
 returns : tie.Need-returns
-returns c = c.within.ensures ∙ ask-one _ _ _ (search rules)
+returns c = c.within.ensures ∙ ask_one _ _ _ (search rules)
 
 ask-near-requires : tie.Need-ask-near-requires
 ask-near-requires c κs = search rules

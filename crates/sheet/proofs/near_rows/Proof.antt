@@ -6,7 +6,7 @@ use mathlib.Core.Path.{ap, sym, ◌∙◌}
 use native.Mathlib.Omega.{arith}
 use lib.ListN.{length}
 use lib.Seq.{length-sets}
-use Rattle.sheet.proofs.Table.{Gathered, gather-start, gather-near, gather-past, gather-end}
+use Rattle.sheet.proofs.Table.{Gathered, gather_start, gather_near, gather_past, gather_end}
 use Rattle.sheet.proofs.near_rows.Statement.{statement}
 use Rattle.sheet.proofs.near_rows.Tie as tie
 
@@ -20,7 +20,7 @@ cast-id : tie.Need-overflow-cast-id invariant-loop decreases-loop
 cast-id c = search rules
 
 loop-holds : tie.Need-loop-init invariant-loop decreases-loop
-loop-holds c = gather-start _ _ _ _
+loop-holds c = gather_start _ _ _ _
 
 sub-loop : tie.Need-overflow-sub-loop invariant-loop decreases-loop
 sub-loop c = search rules
@@ -69,15 +69,15 @@ loop-again c =
     let r = c.before in
     let l = r.before.before.before.before.before.loop in
     ⊎_elim
-    (λ w. rw (w.5, w.6, w.2.ensures) (gather-near _ _ _ _ _ _ _ l.invariant (search rules) (sym r.reaches.ensures ∙ w.0.taken)))
-    (λ w. rw (w.1, w.2) (gather-past _ _ _ _ _ _ _ l.invariant (search rules) (sym r.reaches.ensures ∙ w.0.left)))
+    (λ w. rw (w.5, w.6, w.2.ensures) (gather_near _ _ _ _ _ _ _ l.invariant (search rules) (sym r.reaches.ensures ∙ w.0.taken)))
+    (λ w. rw (w.1, w.2) (gather_past _ _ _ _ _ _ _ l.invariant (search rules) (sym r.reaches.ensures ∙ w.0.left)))
     c.if1.branch
 
 same_length : tie.Need-same-length invariant-loop decreases-loop
 same_length c = ap length c.before.loop.invariant.stored ∙ simp length-sets
 
 returns : tie.Need-returns invariant-loop decreases-loop
-returns c = gather-end _ _ _ _ _ _ _ c.before.loop.invariant (search rules)
+returns c = gather_end _ _ _ _ _ _ _ c.before.loop.invariant (search rules)
 
 pub near-rows-spec : {M : Type 1} → statement M
 near-rows-spec =

@@ -1,6 +1,6 @@
 -- `sheet::put_four` meets its contract: four stores are one run of stores.
 use borrow.Author.Rules.{rules}
-use Rattle.sheet.proofs.Table.{four-stores}
+use Rattle.sheet.proofs.Table.{four_stores}
 use Rattle.sheet.proofs.put_four.Statement.{statement}
 use Rattle.sheet.proofs.put_four.Tie as tie
 
@@ -33,7 +33,7 @@ returns c =
     let p = c.before.before in
     let a = c.before.before.before.before.before.before.before.before.before.before.before.before.before.before.before.before.before.args in
     rw (p.put-number4.ensures, p.before.before.before.before.put-number3.ensures, p.before.before.before.before.before.before.before.before.put-number2.ensures, p.before.before.before.before.before.before.before.before.before.before.before.before.put-number.ensures)
-    (four-stores a.table.now a.at a.a a.b a.c a.d)
+    (four_stores a.table.now a.at a.a a.b a.c a.d)
 
 pub put-four-spec : {M : Type 1} → statement M
 put-four-spec =

@@ -3,7 +3,7 @@ use borrow.Author.Rules.{rules}
 use native.Mathlib.Omega.{arith}
 use Prim.Native.Nat.{◌+◌}
 use lib.ListN.{get_or, length-set}
-use Rattle.sheet.proofs.Table.{four-stores}
+use Rattle.sheet.proofs.Table.{four_stores}
 use Rattle.sheet.proofs.put_near.Statement.{statement}
 use Rattle.sheet.proofs.put_near.Tie as tie
 
@@ -124,7 +124,7 @@ same_length c = search rules
 returns : tie.Need-returns
 returns c =
     let a = c.before.before.before.before.before.before.before.args in
-    four-stores a.near.now a.n (get_or a.table.now (a.i + 2) 0) (get_or a.table.now (a.i + 3) 0) (get_or a.table.now (a.i + 4) 0) (get_or a.table.now (a.i + 5) 0)
+    four_stores a.near.now a.n (get_or a.table.now (a.i + 2) 0) (get_or a.table.now (a.i + 3) 0) (get_or a.table.now (a.i + 4) 0) (get_or a.table.now (a.i + 5) 0)
 
 same-length-2 : tie.Need-same-length-2
 same-length-2 c = search rules

@@ -1,7 +1,7 @@
 -- `sheet::put_row` meets its contract: seven stores are one run of stores.
 use borrow.Author.Rules.{rules}
 use Rattle.sheet.specs.Rows.{row_in}
-use Rattle.sheet.proofs.Table.{row-stores}
+use Rattle.sheet.proofs.Table.{row_stores}
 use Rattle.sheet.proofs.put_row.Statement.{statement}
 use Rattle.sheet.proofs.put_row.Tie as tie
 
@@ -58,7 +58,7 @@ returns c =
     let f = r.before.before.before.before.before in
     let a = f.before.before.before.before.before.before.before.before.before.args in
     rw (p.put-number3.ensures, q.put-number2.ensures, q.before.nanos-of2.ensures, r.put-number.ensures, r.before.nanos-of.ensures, f.put_four.ensures)
-    (row-stores a.table.now a.at (row_in a.row))
+    (row_stores a.table.now a.at (row_in a.row))
 
 pub put-row-spec : {M : Type 1} → statement M
 put-row-spec =

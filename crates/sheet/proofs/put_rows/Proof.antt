@@ -5,7 +5,7 @@ use mathlib.Core.Path.{ap, ◌∙◌}
 use native.Mathlib.Omega.{arith}
 use lib.ListN.{length}
 use lib.Seq.{length-sets}
-use Rattle.sheet.proofs.Table.{Laid, lay-start, lay-next, lay-end}
+use Rattle.sheet.proofs.Table.{Laid, lay_start, lay_next, lay_end}
 use Rattle.sheet.proofs.put_rows.Statement.{statement}
 use Rattle.sheet.proofs.put_rows.Tie as tie
 
@@ -16,7 +16,7 @@ abbrev decreases-loop : tie.decreases-loop
 decreases-loop s table₀ i₀ table i = length s - 32 * i
 
 loop-holds : tie.Need-loop-init invariant-loop decreases-loop
-loop-holds c = lay-start _ _ c.before.before.requires
+loop-holds c = lay_start _ _ c.before.before.requires
 
 mul-loop : tie.Need-overflow-mul-loop invariant-loop decreases-loop
 mul-loop c = omega arith
@@ -55,13 +55,13 @@ loop-again c =
     let l = r.before.before.before.loop in
     let s = r.before.before.before.before.before in
     rw (p.put-row.ensures, r.row_at.ensures)
-    (lay-next _ _ _ _ l.invariant s.before.requires (record { below = λ k. (s.shared-slice-known.given k).fits }) (search rules))
+    (lay_next _ _ _ _ l.invariant s.before.requires (record { below = λ k. (s.shared-slice-known.given k).fits }) (search rules))
 
 same_length : tie.Need-same-length invariant-loop decreases-loop
 same_length c = ap length c.before.loop.invariant.stored ∙ simp length-sets
 
 returns : tie.Need-returns invariant-loop decreases-loop
-returns c = lay-end _ _ _ _ c.before.loop.invariant (search rules)
+returns c = lay_end _ _ _ _ c.before.loop.invariant (search rules)
 
 pub put-rows-spec : {M : Type 1} → statement M
 put-rows-spec =

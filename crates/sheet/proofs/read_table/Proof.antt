@@ -1,7 +1,7 @@
 -- `sheet::read_table` meets its contract: a sheet that keeps the rules is laid out, and one that does not leaves the table.
 use borrow.Author.Rules.{rules}
 use mathlib.Core.Path.{sym, ap, ◌∙◌}
-use Rattle.sheet.specs.Table.{toldTable}
+use Rattle.sheet.specs.Table.{told_table}
 use Rattle.sheet.proofs.Table.{keeps, left}
 use Rattle.sheet.proofs.read_table.Statement.{statement}
 use Rattle.sheet.proofs.read_table.Tie as tie
@@ -13,7 +13,7 @@ enum-known-answer : tie.Need-enum-known-answer
 enum-known-answer c = search rules
 
 put-rows-requires : tie.Need-put-rows-requires
-put-rows-requires c κs = keeps _ (sym (ap toldTable c.before.before.answer.given.1) ∙ c.before.before.before.before.count-rows.ensures)
+put-rows-requires c κs = keeps _ (sym (ap told_table c.before.before.answer.given.1) ∙ c.before.before.before.before.count-rows.ensures)
 
 enum-known-answer-2 : tie.Need-enum-known-answer-2
 enum-known-answer-2 c = search rules
@@ -25,11 +25,11 @@ returns : tie.Need-returns
 returns c =
     let p = c.before.before in
     let a = p.before.before.before in
-    (sym (ap toldTable a.answer.given.1) ∙ a.before.before.count-rows.ensures, p.put-rows.ensures)
+    (sym (ap told_table a.answer.given.1) ∙ a.before.before.count-rows.ensures, p.put-rows.ensures)
 
 returns-2 : tie.Need-returns-2
 returns-2 c =
-    let e = sym (ap toldTable c.before.answer2.given.1) ∙ c.before.before.before.count-rows.ensures in
+    let e = sym (ap told_table c.before.answer2.given.1) ∙ c.before.before.before.count-rows.ensures in
     (e, left _ _ e)
 
 pub read-table-spec : {M : Type 1} → statement M

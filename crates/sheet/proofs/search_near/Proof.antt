@@ -6,7 +6,7 @@ use mathlib.Core.Bool.{false, and-false}
 use mathlib.Core.Logic.{⊎_elim}
 use native.Mathlib.Omega.{arith}
 use lib.ListN.{length}
-use Rattle.sheet.proofs.Table.{Asked, ask-start, ask-past, ask-found, ask-end}
+use Rattle.sheet.proofs.Table.{Asked, ask_start, ask_past, ask_found, ask_end}
 use Rattle.sheet.proofs.search_near.Statement.{statement}
 use Rattle.sheet.proofs.search_near.Tie as tie
 
@@ -17,7 +17,7 @@ abbrev decreases-loop : tie.decreases-loop
 decreases-loop near p t i₀ i = length near - i
 
 loop-holds : tie.Need-loop-init invariant-loop decreases-loop
-loop-holds c = ask-start _ _ _
+loop-holds c = ask_start _ _ _
 
 sub-loop : tie.Need-overflow-sub-loop invariant-loop decreases-loop
 sub-loop c = search rules
@@ -60,7 +60,7 @@ returns c =
     let d = c.before.before in
     let b = d.before.before in
     let a = b.before.before in
-    ask-found _ _ _ _ a.before.before.before.loop.invariant (search rules) (rw (le-leb _ _ a.if1.true, b.if2.true, d.if3.true, c.if4.true))
+    ask_found _ _ _ _ a.before.before.before.loop.invariant (search rules) (rw (le-leb _ _ a.if1.true, b.if2.true, d.if3.true, c.if4.true))
 
 add-i : tie.Need-overflow-add-i invariant-loop decreases-loop
 add-i c = search rules
@@ -70,11 +70,11 @@ loop-less c = omega arith
 
 loop-again : tie.Need-loop-preserved invariant-loop decreases-loop
 loop-again c =
-    ask-past _ _ _ _ c.before.before.before.loop.invariant (search rules)
+    ask_past _ _ _ _ c.before.before.before.loop.invariant (search rules)
     (⊎_elim (λ w. simp (w.6.left, and-false)) (⊎_elim (λ w. simp (w.4.left, and-false)) (⊎_elim (λ w. simp (w.2.left, and-false)) (λ w. rw (lt-leb _ _ w.left)))) c.if1.branch)
 
 returns-2 : tie.Need-returns-2 invariant-loop decreases-loop
-returns-2 c = ask-end _ _ _ _ _ c.before.loop.invariant (search rules)
+returns-2 c = ask_end _ _ _ _ _ c.before.loop.invariant (search rules)
 
 pub search-near-spec : {M : Type 1} → statement M
 search-near-spec =

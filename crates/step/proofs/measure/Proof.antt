@@ -2,8 +2,8 @@
 use mathlib.Core.Path.{◌≡◌}
 use borrow.Author.Rules.{rules}
 use lib.ListN.{length}
-use Rattle.step.specs.Told.{stateIn}
-use Rattle.step.proofs.Whole.{stepped-alone}
+use Rattle.step.specs.Told.{state_in}
+use Rattle.step.proofs.Whole.{stepped_alone}
 use Rattle.step.proofs.measure.Statement.{statement}
 use Rattle.step.proofs.measure.Tie as tie
 use Rattle.step.proofs.measure.Reads as reads
@@ -27,7 +27,7 @@ returns : tie.Need-returns
 returns c =
     let s = c.before.before.before.before.before.before.before in
     let a = s.args in
-    stepped-alone (length a.state.ids) (ids-long s) a.input.now a.sheet.now a.quota (stateIn a.state) _ c.before.measure.ensures
+    stepped_alone (length a.state.ids) (ids-long s) a.input.now a.sheet.now a.quota (state_in a.state) _ c.before.measure.ensures
 
 pub measure-spec : {M : Type 1} → statement M
 measure-spec = tie.close (tie.spec slice-aggregate-measure measure-requires returns)

@@ -2,7 +2,7 @@
 use mathlib.Core.Path.{◌≡◌}
 use borrow.Author.Rules.{rules}
 use lib.ListN.{length}
-use Rattle.step.specs.Told.{stateIn}
+use Rattle.step.specs.Told.{state_in}
 use Rattle.step.proofs.Whole.{stepped}
 use Rattle.step.proofs.step.Statement.{statement}
 use Rattle.step.proofs.step.Tie as tie
@@ -36,7 +36,7 @@ returns : tie.Need-returns
 returns c =
     let s = c.before.before.before.before.before.before.before.before.before.before.before.before.before in
     let a = s.args in
-    stepped (length a.state.ids) (length a.state.next) a.state.held (ids-long s) (next-long s) a.input.now a.sheet.now a.quota (stateIn a.state) a.out.now _ c.before.before.before.before.copy.ensures
+    stepped (length a.state.ids) (length a.state.next) a.state.held (ids-long s) (next-long s) a.input.now a.sheet.now a.quota (state_in a.state) a.out.now _ c.before.before.before.before.copy.ensures
 
 pub step_spec : {M : Type 1} → statement M
 step_spec = tie.close (tie.spec slice-aggregate-copy slice-aggregate-copy-2 copy-requires same_length returns)

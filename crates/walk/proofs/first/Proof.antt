@@ -43,8 +43,8 @@ use denote.Triple.Walked.{says, Stays, stay_none_slice, walk_of, Goes-none_slice
 use denote.Exit.{yes}
 use denote.Triple.Clauses.{ensured, lasts}
 use Rattle.rules.specs.Outcome.{Outcome}
-use Rattle.message.specs.Answers.{toldPackage}
-use Rattle.rules.specs.Walk.{PackageSpot, packageAt}
+use Rattle.message.specs.Answers.{told_package}
+use Rattle.rules.specs.Walk.{PackageSpot, package_at}
 use Rattle.walk.specs.Steps.{Shows}
 use Rattle.walk.specs.declared.Walk.{Walk}
 use Rattle.walk.specs.declared.Shown.{Shown}
@@ -90,7 +90,7 @@ module _ {M : Type 1} {𝓤 : Ura M} (𝓛 : Logic 𝓤) (mem : Memory → SProp
   v = slice_val s.ref_ptr (length s.now)
 
   abbrev found : Outcome (Option PackageSpot)
-  found = packageAt s.now 0
+  found = package_at s.now 0
 
   abbrev α : NamedLft
   α = named_lft 1 0 tt (κ, tt)
@@ -128,7 +128,7 @@ module _ {M : Type 1} {𝓤 : Ura M} (𝓛 : Logic 𝓤) (mem : Memory → SProp
   next-said : (r : Walk) (t : Shown) → ent 𝓤 (ensured 𝓛 next.ended (next.clauses 𝓛 mem run) (κ, tt) (r, tt) tt t) (fact 𝓤 (Shows r t))
   next-said r t = ex_e 𝓤 _ (λ ws. snd∗ 𝓤 (sem 𝓛 (lasts next.ended (κ, tt) (r, tt) ws)) (fact 𝓤 (Shows r t)))
 
-  exits : (y : Step) → Is S.the_row y (EL.val S.the_type S'.the_laws y ∷ []) → toldPackage y ≡ found → ent 𝓤 (⋆ 𝓛 ((‵ (flft κ q) ⊛ ‵ ftrue) ∷ ‵ Own ∷ [])) (Post (EL.val S.the_type S'.the_laws y))
+  exits : (y : Step) → Is S.the_row y (EL.val S.the_type S'.the_laws y ∷ []) → told_package y ≡ found → ent 𝓤 (⋆ 𝓛 ((‵ (flft κ q) ⊛ ‵ ftrue) ∷ ‵ Own ∷ [])) (Post (EL.val S.the_type S'.the_laws y))
   exits y is e =
       qed 𝓛 ((‵ (flft κ q) ⊛ ‵ ftrue) ∷ ‵ Own ∷ []) ∵
       suffices ! _ (ends_at 𝓛 first.ended stayed (first.clauses 𝓛 mem run) (((κ, tt), (q, tt), tt, (s, tt), (v ∷ [], tt)), tt) (EL.val S.the_type S'.the_laws y) y (tt, tt) (tt, tt)) $ says ! e $
@@ -156,7 +156,7 @@ module _ {M : Type 1} {𝓤 : Ura M} (𝓛 : Logic 𝓤) (mem : Memory → SProp
         rewrite ! 5 (λ (w : Val). ‵ (fat full_share (Sh'.mir erased) l₂ 0 w)) (ap only (LL.tells (Sh.the_type α) (Sh'.the_laws α) t (u' ∷ []) is')) refl $
         assigns ! (of_opd ! (load ! (from ! (fld ! refl (stop !))) (look_in ! 5 (sub ! 1 refl (whole !))))) (from ! (stop !)) (init ! 9 refl ((EL.lawful S.the_type S'.the_laws 𝓛 tt).typed t.step _ (LL.owed (Sh.the_type α) (Sh'.the_laws α) t (u' ∷ []) is').1.0).0) $
         returns ! (look ! 9 refl) $ forget ! 3 refl $ forget ! 5 refl $ forget ! 7 refl $ forget ! 9 refl $ move ! (9 ∷ 10 ∷ []) $ free1 ! $ move ! (7 ∷ 8 ∷ []) $ free1 ! $ move ! (5 ∷ 6 ∷ []) $ free1 ! $ move ! (3 ∷ 4 ∷ []) $ free1 ! $ free0 ! $ drop ! $
-        by ! (exits t.step (LL.owed (Sh.the_type α) (Sh'.the_laws α) t (u' ∷ []) is').1.0 (e'.step ∙ (ap (λ (x : Bor (List ℕ)). packageAt x.now r.at) e.0 ∙ ap (packageAt s.now) e.1)))))))))))))))
+        by ! (exits t.step (LL.owed (Sh.the_type α) (Sh'.the_laws α) t (u' ∷ []) is').1.0 (e'.step ∙ (ap (λ (x : Bor (List ℕ)). package_at x.now r.at) e.0 ∙ ap (package_at s.now) e.1)))))))))))))))
 
 module _ {M : Type 1} {𝓤 : Ura M} (𝓛 : Logic 𝓤) (mem : Memory → SProp 𝓤) (run : Routine → Fun 𝓤) where
   open 𝓛 use {H}

@@ -43,8 +43,8 @@ use denote.Triple.Table.{entered, cited}
 use denote.Triple.Walked.{says, Stays, stay_none, walk_of, Goes-none, Walks, ends_at, walked, walk_Meets}
 use denote.Exit.{yes}
 use denote.Triple.Clauses.{ensured, lasts}
-use Rattle.message.specs.Answers.{toldPackage, PartOf}
-use Rattle.rules.specs.Walk.{packageAt, dataAt, start_at, next_at}
+use Rattle.message.specs.Answers.{told_package, PartOf}
+use Rattle.rules.specs.Walk.{package_at, data_at, start_at, next_at}
 use Rattle.walk.specs.declared.Walk.{Walk}
 use Rattle.walk.specs.declared.Shown.{Shown}
 use Rattle.message.specs.declared.PackageRead.{PackageRead as Step}
@@ -142,12 +142,12 @@ module _ {M : Type 1} {𝓤 : Ura M} (𝓛 : Logic 𝓤) (mem : Memory → SProp
   abbrev to-next : (NextAt 𝓛 mem run).Ghost
   to-next = (((κ, tt), (q, tt), tt, (d.run, (d.at, tt)), passed), tt)
 
-  step-said : (y : Step) → ent 𝓤 (ensured 𝓛 step.ended (step.clauses 𝓛 mem run) (κ, tt) (d.run, (d.at, tt)) tt y) (fact 𝓤 (toldPackage y ≡ packageAt d.run.now d.at))
-  step-said y = ex_e 𝓤 _ (λ ws. snd∗ 𝓤 (sem 𝓛 (lasts step.ended (κ, tt) (d.run, (d.at, tt)) ws)) (fact 𝓤 (toldPackage y ≡ packageAt d.run.now d.at)))
+  step-said : (y : Step) → ent 𝓤 (ensured 𝓛 step.ended (step.clauses 𝓛 mem run) (κ, tt) (d.run, (d.at, tt)) tt y) (fact 𝓤 (told_package y ≡ package_at d.run.now d.at))
+  step-said y = ex_e 𝓤 _ (λ ws. snd∗ 𝓤 (sem 𝓛 (lasts step.ended (κ, tt) (d.run, (d.at, tt)) ws)) (fact 𝓤 (told_package y ≡ package_at d.run.now d.at)))
 
   -- z is the part that is to be shown
   abbrev Right : Bor (List ℕ) → Type 0
-  Right z = (z.now ≡ dataAt d.run.now d.at) × PartOf d.run (start_at d.run.now d.at) z
+  Right z = (z.now ≡ data_at d.run.now d.at) × PartOf d.run (start_at d.run.now d.at) z
 
   data-said : (z : Bor (List ℕ)) → ent 𝓤 (ensured 𝓛 shows-at.ended (shows-at.clauses 𝓛 mem run) (κ, tt) (d.run, (d.at, tt)) tt z) (fact 𝓤 (Right z))
   data-said z = ex_e 𝓤 _ (λ ws. snd∗ 𝓤 (sem 𝓛 (lasts shows-at.ended (κ, tt) (d.run, (d.at, tt)) ws)) (fact 𝓤 (Right z)))
@@ -180,7 +180,7 @@ module _ {M : Type 1} {𝓤 : Ura M} (𝓛 : Logic 𝓤) (mem : Memory → SProp
         use1 𝓛 (‵ ((T.the_row α).own_val moved (T'.lowered moved ∷ []))) (own_shut 𝓛 (T.the_type α) (T'.the_laws α) (d.run, (n, tt))) $
         nothing ! $ move ! (3 ∷ 0 ∷ []) $ fjoin ! $ move ! (2 ∷ 0 ∷ []) $ fjoin ! $ move ! (1 ∷ 0 ∷ []) $ fjoin ! $ by ! (own_shut 𝓛 (Sh.the_type α) (Sh'.the_laws α) (moved, (y, (z, tt))))
 
-    exits : n ≡ next_at d.run.now d.at → toldPackage y ≡ packageAt d.run.now d.at → Right z
+    exits : n ≡ next_at d.run.now d.at → told_package y ≡ package_at d.run.now d.at → Right z
         → ent 𝓤 (⋆ 𝓛 (‵ ((Sh.the_row α).own_val made (vr ∷ [])) ∷ (‵ (flft κ q) ⊛ ‵ ftrue) ∷ ‵ Own ∷ [])) (Post vr)
     exits en ey ez =
         qed 𝓛 (‵ ((Sh.the_row α).own_val made (vr ∷ [])) ∷ (‵ (flft κ q) ⊛ ‵ ftrue) ∷ ‵ Own ∷ []) ∵
@@ -203,7 +203,7 @@ module _ {M : Type 1} {𝓤 : Ura M} (𝓛 : Logic 𝓤) (mem : Memory → SProp
         use2 𝓛 (raw ((StepAt 𝓛 mem run).pre to_step) ⊛ ‵ Run) asks $ split ! $
         calls_at ! fm (StepAt 𝓛 mem run) Known-step to_step (and_then ! (load ! (from ! (stop !)) (look ! 15 refl)) (and_then ! (load ! (from ! (stop !)) (look ! 13 refl)) (no_more !))) (λ u₁.
         use1 𝓛 (later (some (λ (y : Step). ((‵ (flft κ q) ⊛ ‵ ftrue) ⊛ ‵ ((S.the_row).own_val y (u₁ ∷ []))) ⊛ raw (ensured 𝓛 step.ended (step.clauses 𝓛 mem run) (κ, tt) (d.run, (d.at, tt)) tt y)))) (id⊢ 𝓤 _) $ await ! tt $ pick ! (λ y.
-        split ! $ move ! (1 ∷ []) $ use1 𝓛 (raw (fact 𝓤 (toldPackage y ≡ packageAt d.run.now d.at))) (step-said y) $ heard ! (toldPackage y ≡ packageAt d.run.now d.at) (λ ey. split ! $ move ! (1 ∷ []) $
+        split ! $ move ! (1 ∷ []) $ use1 𝓛 (raw (fact 𝓤 (told_package y ≡ package_at d.run.now d.at))) (step-said y) $ heard ! (told_package y ≡ package_at d.run.now d.at) (λ ey. split ! $ move ! (1 ∷ []) $
         peeks ! S.the_row (Is S.the_row) (shows 𝓛 S.the_row) y (u₁ ∷ []) (λ is_y.
         land ! (from ! (stop !)) (init ! 12 refl ((EL.lawful S.the_type S'.the_laws 𝓛 tt).typed y _ is_y).0) $
         rewrite ! 12 (λ (w : Val). ‵ (fat full_share S'.mir l₄ 0 w)) (ap only (EL.tells S.the_type S'.the_laws y (u₁ ∷ []) is_y)) refl $ rewrite ! 0 (λ (us : List Val). ‵ ((S.the_row).own_val y us)) (EL.tells S.the_type S'.the_laws y (u₁ ∷ []) is_y) refl $

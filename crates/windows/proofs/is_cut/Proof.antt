@@ -1,8 +1,8 @@
--- `windows::is_cut` meets its contract.
+-- `windows::is_cut_lem` meets its contract.
 use Rattle.windows.proofs.Handing.{short_cut, other_cut}
 use borrow.Author.Rules.{rules}
-use Rattle.windows.proofs.is_cut.Statement.{statement}
-use Rattle.windows.proofs.is_cut.Tie as tie
+use Rattle.windows.proofs.is_cut_lem.Statement.{statement}
+use Rattle.windows.proofs.is_cut_lem.Tie as tie
 
 number-of-requires : tie.Need-number-of-requires
 number-of-requires c κs = search rules

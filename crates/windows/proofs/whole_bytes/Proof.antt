@@ -3,7 +3,7 @@ use Prim.Native.Nat.{◌+◌, ◌-◌}
 use native.Mathlib.Omega.{arith}
 use borrow.Author.Rules.{rules}
 use lib.ListN.{length}
-use Rattle.windows.proofs.Lengths.{Lengths, lengths-start, lengths-end, lengths-stop, lengths-next}
+use Rattle.windows.proofs.Lengths.{Lengths, lengths-start, lengths-end, lengths_stop, lengths-next}
 use Rattle.windows.proofs.whole_bytes.Statement.{statement}
 use Rattle.windows.proofs.whole_bytes.Tie as tie
 
@@ -29,7 +29,7 @@ extent-requires : tie.Need-extent-requires invariant-loop decreases-loop
 extent-requires c κs = search rules
 
 returns : tie.Need-returns invariant-loop decreases-loop
-returns c = lengths-stop _ _ c.before.before.before.before.loop.invariant c.before.before.before.loop-test.true _ c.before.extent.ensures c.if1.true
+returns c = lengths_stop _ _ c.before.before.before.before.loop.invariant c.before.before.before.loop-test.true _ c.before.extent.ensures c.if1.true
 
 -- a turn behind a message
 next : (c : tie.Else1 invariant-loop decreases-loop) → Lengths c.before.before.before.before.before.before.args.window.now (c.before.before.before.before.loop.at + c.before.extent.result)

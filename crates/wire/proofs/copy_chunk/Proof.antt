@@ -1,7 +1,7 @@
 -- `wire::copy_chunk` meets its contract: what is stored is what the array was filled with.
 use lib.ListN.{replicate}
 use borrow.Author.Rules.{rules}
-use Rattle.wire.proofs.Stores.{part-through}
+use Rattle.wire.proofs.Stores.{part_through}
 use Rattle.wire.proofs.copy_chunk.Statement.{statement}
 use Rattle.wire.proofs.copy_chunk.Tie as tie
 
@@ -25,7 +25,7 @@ returns c =
     let q = c.before.before in
     let p = q.before.before.before.before in
     let a = p.before.before.before.before in
-    part-through a.args.out.now a.args.s.now (replicate 16 0) a.args.at a.args.from a.args.n a.requires.1 a.requires.2 p.copy-few.ensures q.copy-few2.ensures
+    part_through a.args.out.now a.args.s.now (replicate 16 0) a.args.at a.args.from a.args.n a.requires.1 a.requires.2 p.copy-few.ensures q.copy-few2.ensures
 
 pub copy-chunk-spec : {M : Type 1} → statement M
 copy-chunk-spec =
