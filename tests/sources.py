@@ -8,7 +8,8 @@ ROOT = os.path.normpath(os.path.join(os.path.dirname(os.path.abspath(__file__)),
 # A comment of either language, a string, or a character. A lifetime ('a) is none.
 UNREAD = re.compile(r"//[^\n]*|--[^\n]*|/\*.*?\*/|\{-.*?-\}|\"(?:\\.|[^\"\\])*\"|'(?:\\[^']+|[^'\\])'", re.S)
 FUNCTION = re.compile(r"\b(pub(?:\([^)]*\))?\s+)?(?:(?:const|unsafe|extern(?:\s*\"\s*\")?)\s+)*fn\s+(\w+)")
-CLAUSE = re.compile(r"\b(ghost|requires|ensures)\s*\{|\{")
+# A clause of a kind that has more than one bears a name.
+CLAUSE = re.compile(r"\b(ghost|requires|ensures)\b\*?[ \t]*(?:\w+[ \t]*)?\{|\{")
 # A name of antt is any run of characters but these.
 NAME = r"[^\s(){}.;,@\"«»]+"
 DECLARATION = re.compile(rf"^(?:(?:abbrev|unfoldable)\s+)?(?:pub\s+)?(?:(record|data)\s+({NAME})(?=\s)|({NAME})\s+:\s)")
@@ -22,7 +23,8 @@ def read(path):
 @functools.lru_cache
 def crates():
     """The crates in their order, each with those that it uses."""
-    return {name: used.split() for name, used in (line.split(":") for line in read("crates.txt").splitlines() if line)}
+    lines = [line.split("#")[0] for line in read("crates.txt").splitlines()]
+    return {name.split()[0]: used.split() for name, used in (line.split(":") for line in lines if line.strip())}
 
 
 def libraries():
@@ -53,7 +55,9 @@ class Item:
         self.text = text[start:end]
         self.lines = range(text.count("\n", 0, start), text.count("\n", 0, end) + 1)
         self.public = self.function = False
-        self.parameters, self.answer, self.clauses = "", "", []
+        # The name that it shares with those that call it and that it calls, where there is one.
+        self.cycle = None
+        self.generics, self.parameters, self.answer, self.clauses = "", "", "", []
 
     def calls(self, other):
         """Whether the code calls another function of the crate, or names a constant."""
@@ -76,6 +80,9 @@ def function_in(crate, path, text, found, types):
     item = Item(crate, path, name, text, found.start(), block_end(text, clause.end() - 1))
     item.function = True
     item.public = found.group(1) is not None
+    cycle = re.search(r"#\[cycle\((\w+)\)\]\s*(?:#\[[^\]]*\]\s*)*$", text[:found.start()])
+    item.cycle = cycle.group(1) if cycle else None
+    item.generics = text[found.end():opening]
     item.parameters = text[opening + 1:behind - 1]
     item.answer = text[behind:clauses[0][2] if clauses else clause.start()].replace("->", "").strip()
     item.clauses = [clause[:2] for clause in clauses]
@@ -90,7 +97,7 @@ def items(crate):
         path = os.path.relpath(path, f"{ROOT}/crates/{crate}")
         text = plain(read(f"crates/{crate}/{path}"))
         types = [(head.group(1), head.start(), block_end(text, head.end() - 1))
-                 for head in re.finditer(r"(?m)^impl\b(?:\s*<[^>]*>)?\s+(\w+)[^{]*\{", text)]
+                 for head in re.finditer(r"(?m)^impl\b(?:\s*<[^>]*>)?\s+(?:[^{]*?\bfor\s+)?(\w+)[^{]*\{", text)]
         found += [function_in(crate, path, text, head, types) for head in FUNCTION.finditer(text)]
         found += [Item(crate, path, head.group(1), text, head.start(), block_end(text, head.end() - 1))
                   for head in re.finditer(r"(?m)^(?:pub )?const (\w+): [^=]*= \[", text)]

@@ -49,7 +49,7 @@ def crates_used(names):
     with open(ROOT + "/crates.txt") as file:
         for line in file:
             name, _, used = line.split("#")[0].partition(":")
-            uses[name.strip()] = used.split()
+            uses["".join(name.split()[:1])] = used.split()
     while todo:
         name = todo.pop()
         if name in uses and name not in found:

@@ -2,7 +2,6 @@
 use Prim.Native.Nat.{ℕ}
 use mathlib.Core.Path.{refl, sym, ap}
 use mathlib.Core.List.{List}
-use Rattle.rules.specs.Burst as rules
 use Rattle.rules.specs.Claims.{TellsApart}
 use Rattle.rules.proofs.Apart.{beside}
 use Rattle.refusal.proofs.Numbers.{number_positive, same_refusal}

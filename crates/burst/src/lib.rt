@@ -1,4 +1,6 @@
 // Bursts: the randomizer, which works in a lent buffer, and the opening of a burst.
+#![tactic(auto)]
+
 ghost use Rattle.std.specs.Prelude.{◌+◌, ◌≤◌, ◌≡◌, length};
 ghost use Rattle.rules.specs.Burst.{sequence_bytes, randomized, marked, blocks_fit, codeblocks, randomizer, opener};
 ghost use Rattle.burst.specs.Told.{told_randomized, told_opened};
@@ -6,14 +8,14 @@ ghost use Rattle.burst.specs.Told.{told_randomized, told_opened};
 use refusal::{Refusal, Why};
 
 // The buffer is randomized, or why it was left as it was.
-#[derive(Drop)]
+#[derive(Clone, Copy)]
 pub enum Randomized {
     Done,
     Refused(Refusal),
 }
 
 // How many codeblocks were opened, or why none were.
-#[derive(Drop)]
+#[derive(Clone, Copy)]
 pub enum Opened {
     Done { blocks: usize },
     Refused(Refusal),

@@ -15,7 +15,6 @@ use Rattle.rules.specs.Items.{items}
 use Rattle.rules.specs.Reading.{checked_recording}
 use Rattle.rules.specs.Writer.{write}
 use Rattle.message.specs.Answers.{spot_of_message}
-use Rattle.rules.specs.Buffer as answers
 use Rattle.rules.specs.Buffer.{stored, fitted}
 use Rattle.rules.specs.Clean.{clean_form, cleaner}
 use Rattle.rules.proofs.Outcomes.{pass, step, stop, passed, stepped, fronted, front_of_lem, good_inj, good≢bad}

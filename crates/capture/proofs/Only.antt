@@ -11,7 +11,7 @@ use lib.ListN.{length, get_or, take, drop, take-append-drop, length-drop}
 use lib.Seq.{drop-nil, drop-drop, get_or-drop, length-take-le}
 use Rattle.rules.specs.Outcome.{Outcome, good, bad}
 use Rattle.refusal.specs.Numbers.{CAPTURE}
-use Rattle.rules.specs.Bytes.{Bytes, at, half, word, put32, part, join}
+use Rattle.rules.specs.Bytes.{Bytes, half, word, put32, part, join}
 use Rattle.rules.specs.Items.{items, All, all_nil, all_cons}
 use Rattle.rules.proofs.Outcomes.{passed, stepped, fronted, both, good_inj, good≢bad}
 use Rattle.rules.proofs.Numbers.{put32-word, put16-half, word_lt, bytes_drop, bytes-tail, bytes-cons, bytes-nil}

@@ -13,7 +13,7 @@ use Rattle.rules.specs.Buffer.{fitted}
 use Rattle.rules.proofs.Outcomes.{stop, stepped, good_inj, good≢bad, refused_pass, refused-step, refused-only}
 use Rattle.rules.proofs.Gives.{Gives, Numbered, gives_check, gives_items, numbered-message}
 use Rattle.rules.proofs.Reasons.{recording-refused}
-use Rattle.capture.specs.File.{Packet, packets}
+use Rattle.capture.specs.File.{Packet}
 use Rattle.capture.specs.Reading.{Taken, taken_of, taken, recording_of, ReadAnswer, room_for_taken, read_stored, read_capture}
 use Rattle.capture.specs.Writing.{datagrams, file_of, WriteAnswer, room_for_file, write_stored, write_capture}
 use Rattle.capture.specs.Claims as claims

@@ -11,7 +11,7 @@ use Rattle.rules.specs.Claims.{Careful, BadRecording}
 use Rattle.capture.specs.File.{Order, big, little, word_in, record_header, header_good, Packet, packets, file_in}
 use Rattle.capture.specs.Twins.{other, twin, free_in}
 use Rattle.capture.specs.Frame.{udp_header, ip_of, ip_header, for_us, lengths_fit, data_of, ones_sum, frame_of}
-use Rattle.capture.specs.Reading.{kept, not_for_us, cut_short, bad_message, Taken, taken_of, recording_of, ReadAnswer, read_capture}
+use Rattle.capture.specs.Reading.{Taken, taken_of, recording_of, ReadAnswer, read_capture}
 use Rattle.capture.specs.Writing.{most_data, packet_of, datagrams, file_of, write_capture}
 
 -- ---- Files, in both byte orders

@@ -1,4 +1,6 @@
 // Captures from the switch: read into a recording, and written from one.
+#![tactic(auto)]
+
 ghost use Rattle.std.specs.Prelude.{◌≡◌, [], ◌+◌, ◌-◌, ◌*◌, ◌%◌, ◌≤◌, ◌<◌, length};
 ghost use Rattle.std.proofs.lemmas.List.Edits.{sets};
 ghost use Rattle.rules.specs.Bytes.{pad};
@@ -53,7 +55,7 @@ fn header_good(big: bool, s: &[u8]) -> bool
 }
 
 // A record: where it ends, and how many bytes its packet had on the wire; or that the file's end cuts it.
-#[derive(Drop)]
+#[derive(Clone, Copy)]
 enum Slot {
     Record(usize, u32),
     Cut,
@@ -149,7 +151,7 @@ fn one_message(s: &[u8]) -> bool
 }
 
 // A packet: kept, with where its message is in the frame, or under which count it comes.
-#[derive(Drop)]
+#[derive(Clone, Copy)]
 enum Packed {
     Kept(usize, usize),
     NotForUs,
@@ -181,7 +183,7 @@ fn class_of(port: u16, frame: &[u8], original: u32) -> Packed
 }
 
 // What reading reports: the bytes of the recording, and the four counts.
-#[derive(Drop)]
+#[derive(Clone, Copy)]
 pub struct Counts {
     pub bytes: usize,
     pub kept: usize,
@@ -268,7 +270,7 @@ fn with_packet(
     with_class(t, class)
 }
 
-#[derive(Drop)]
+#[derive(Clone, Copy)]
 enum Measured {
     Fits(Counts),
     Refused(Refusal),
@@ -355,7 +357,7 @@ fn store(file: &[u8], spots: &[u32; 800], n: usize, out: &mut [u8])
 }
 
 // What was read, or why nothing was.
-#[derive(Drop)]
+#[derive(Clone, Copy)]
 pub enum CaptureRead {
     Done(Counts),
     Refused(Refusal),
@@ -455,13 +457,13 @@ fn clean_size(m: Message) -> usize
 }
 
 // What a capture file takes: its bytes, and the messages that it carries.
-#[derive(Drop)]
+#[derive(Clone, Copy)]
 struct Sums {
     bytes: usize,
     messages: usize,
 }
 
-#[derive(Drop)]
+#[derive(Clone, Copy)]
 enum Weighed {
     Fits(Sums),
     Refused(Refusal),
@@ -550,7 +552,7 @@ fn lay(recording: &[u8], port: u16, out: &mut [u8])
 }
 
 // How many bytes were written and how many messages they carry, or why none were.
-#[derive(Drop)]
+#[derive(Clone, Copy)]
 pub enum CaptureWritten {
     Done { bytes: usize, messages: usize },
     Refused(Refusal),

@@ -9,14 +9,12 @@ use lib.ListN.{length, length-append}
 use Rattle.rules.specs.Outcome.{good}
 use Rattle.rules.specs.Bytes.{join}
 use Rattle.rules.specs.Items.{All, all_nil, all_cons}
-use Rattle.rules.specs.Valid as rules
 use Rattle.fragments.specs.Fragment.{FIRST, MIDDLE, LAST, Fragment, options_of, offset_option, offset_in, offset_of, payloads_of, next_number}
 use Rattle.fragments.specs.Cutting.{fragment_with, later_fragments, fragments_with, no_offset}
 use Rattle.fragments.specs.Claims.{Behind, Follow, end, next, WholeSet, many, Filled, last, full}
 use Rattle.rules.specs.Items.{none}
 use Rattle.fragments.proofs.Options.{Run, Once, made_of, once_of, run-options, run-whole, offset-run, offset-once, only-offset, offset-behind}
 use Rattle.fragments.proofs.Again.{Valid}
-use Rattle.fragments.proofs.Chunks as Chunks
 use Rattle.fragments.proofs.Chunks.{Chunks, chunks-join}
 
 -- ---- the later fragments

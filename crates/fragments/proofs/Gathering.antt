@@ -14,7 +14,7 @@ use lib.Seq.{drop-drop}
 use Rattle.rules.specs.Outcome.{Outcome, good, bad, refuse, ◌>>◌, ◌∷>◌}
 use Rattle.refusal.specs.Numbers.{GAP}
 use Rattle.rules.specs.Bytes.{Bytes, part}
-use Rattle.rules.specs.Message.{Head, head, payload_start, payload, fragment_bits, option_run_length}
+use Rattle.rules.specs.Message.{Head, head, payload_start, fragment_bits, option_run_length}
 use Rattle.rules.proofs.Outcomes.{pass, halt, step, stop, stepped, passed, came_after, both, good_inj, good≢bad, refused-step, refused_pass, refused-only}
 use Rattle.rules.proofs.Run.{run_ends}
 use Rattle.rules.proofs.Numbers.{bytes_drop}

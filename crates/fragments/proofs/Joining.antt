@@ -11,7 +11,7 @@ use Rattle.rules.specs.Outcome.{good, bad, STANDARD, PACKAGE, COUNT}
 use Rattle.rules.specs.Bytes.{Bytes, pad, padded, part}
 use Rattle.rules.specs.Items.{All, all_nil, all_cons}
 use Rattle.rules.specs.Options.{option_run_from}
-use Rattle.rules.specs.Message.{head, payload_start, payload, every_check, record_of}
+use Rattle.rules.specs.Message.{head, payload_start, every_check, record_of}
 use Rattle.rules.specs.Writer.{write}
 use Rattle.rules.specs.Clean.{clean_form}
 use Rattle.rules.proofs.Outcomes.{stepped, good_inj, good≢bad, refused_pass, refused-step, refused-only}

@@ -1,5 +1,7 @@
 // Messages cut into fragments, and fragments joined into messages. Everything is checked and measured before the first store. A message's
 // packages are put at the end of the fragments' bytes, cleaned there, and moved down part by part; joined ones are cleaned where they stand.
+#![tactic(auto)]
+
 ghost use Rattle.std.specs.Prelude.{◌≡◌, true, ◌++◌, ◌+◌, ◌-◌, ◌*◌, ◌/◌, ◌%◌, ◌≤◌, ◌<◌, min, length, take, drop};
 ghost use Rattle.std.proofs.lemmas.List.Edits.{sets};
 ghost use Rattle.rules.specs.Bytes.{pad, part};
@@ -23,7 +25,7 @@ use message::{Header, HeaderRead, MessageRead};
 use refusal::{Refusal, Why};
 
 // How many bytes were written and how many fragments they are, or why none were.
-#[derive(Drop)]
+#[derive(Clone, Copy)]
 pub enum Fragmented {
     Done { bytes: usize, fragments: usize },
     Refused(Refusal),
@@ -355,7 +357,7 @@ fn header_at(s: &[u8], i: usize) -> HeaderRead
 }
 
 // The words that were passed: their state, and how many packages begin in them.
-#[derive(Drop)]
+#[derive(Clone, Copy)]
 struct Passed {
     state: usize,
     packages: usize,
@@ -493,7 +495,7 @@ fn fits_behind(h: Header, last: u8, q: u32, o: usize, g: Header, run: &[u8]) -> 
 }
 
 // Where the payload of the next fragment begins and ends and its bits, or why there is none.
-#[derive(Drop)]
+#[derive(Clone, Copy)]
 enum Step {
     Next { from: usize, to: usize, bits: u8 },
     Refused(Refusal),
@@ -535,7 +537,7 @@ fn begins(g: Header, run: &[u8]) -> bool
 }
 
 // How long the joined payload is and what was passed of it, or why the fragments are no whole set.
-#[derive(Drop)]
+#[derive(Clone, Copy)]
 enum Gathered {
     All { payload: usize, passed: Passed },
     Refused(Refusal),

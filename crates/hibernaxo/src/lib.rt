@@ -1,6 +1,8 @@
 // The exports for C, Rust and Python: a function for each entry point that documents 01 and 02 name, over numbers, slices and arrays
 // alone. Each but link_row, which refuses nothing, returns the refusal number, 0 for success, and stores place and values into a lent array on every call, the
 // place first. The definitions ..Told say what comes back; include/hibernaxo.h says it to a caller.
+#![tactic(auto)]
+
 ghost use Rattle.std.specs.Prelude.{◌≡◌, [], ◌∷◌, map, ◌+◌, ◌*◌, ◌≤◌, ◌<◌, length};
 ghost use Rattle.std.proofs.lemmas.List.Edits.{sets};
 ghost use Rattle.rules.specs.Bytes.{join};
@@ -771,7 +773,7 @@ pub extern "C" fn hibernaxo_radio_tlv(bytes: &[u8], at: usize, values: &mut [u64
 }
 
 // What a caller hands over as a TLV, if it is one.
-#[derive(Drop)]
+#[derive(Clone, Copy)]
 enum Handed {
     Tlv(Tlv),
     Nothing,

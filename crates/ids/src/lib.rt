@@ -1,6 +1,8 @@
 // Ids as a line of text, read into ranges and written from them. A line is a list: an item, alone or followed by a comma and a list.
 // The item reader and the list reader call each other, and what is unread gets shorter with each call; they go at most 33 items deep, and lend each other
 // the numbers that they read.
+#![tactic(auto)]
+
 ghost use Rattle.std.specs.Prelude.{◌≡◌, List, map, ℕ, ◌+◌, ◌%◌, ◌≤◌, ◌<◌, length, get_or, take, drop};
 ghost use Rattle.std.proofs.lemmas.List.Edits.{sets};
 ghost use Rattle.refusal.specs.Numbers.{refused};
@@ -16,20 +18,20 @@ use refusal::{Refusal, Why};
 use wire::{byte_at, put_byte};
 
 // An inclusive range of ids.
-#[derive(Drop)]
+#[derive(Clone, Copy)]
 pub struct IdRange {
     pub first: u32,
     pub last: u32,
 }
 
-#[derive(Drop)]
+#[derive(Clone, Copy)]
 pub enum IdsAnswer {
     Good,
     Refused(Refusal),
 }
 
 // The ranges and their number; ranges behind the last are zero, and all ranges of a line that is refused.
-#[derive(Drop)]
+#[derive(Clone, Copy)]
 pub struct IdsRead {
     pub answer: IdsAnswer,
     pub ranges: [IdRange; 32],
@@ -52,7 +54,7 @@ fn is_digit(x: u8) -> bool
 }
 
 // The digits at a place: the number that they say, and how many they are, at most 10.
-#[derive(Drop)]
+#[derive(Clone, Copy)]
 struct DigitsRead {
     value: u64,
     count: usize,
@@ -76,7 +78,7 @@ fn digits_at(s: &[u8], at: usize) -> DigitsRead
 }
 
 // An item, its ids and how many bytes it has; or where the form is broken.
-#[derive(Drop)]
+#[derive(Clone, Copy)]
 enum ItemRead {
     Item { first: u64, last: u64, size: usize },
     Broken(usize),
@@ -110,7 +112,7 @@ fn item_at(s: &[u8], at: usize) -> ItemRead
 }
 
 // Whether the rest of a line has good form, or where it is broken.
-#[derive(Drop)]
+#[derive(Clone, Copy)]
 enum Form {
     Good,
     Broken(usize),
@@ -143,7 +145,7 @@ fn form_at(s: &[u8], from: usize) -> Form
 }
 
 // What the readers come to: so many ranges are read, or the line is refused.
-#[derive(Drop)]
+#[derive(Clone, Copy)]
 enum LineRead {
     Ranges(usize),
     Refused(Refusal),
@@ -349,7 +351,7 @@ fn put_item(out: &mut [u8], at: usize, r: IdRange) -> usize
 }
 
 // Whether ranges may be written, or the index of the first that may not.
-#[derive(Drop)]
+#[derive(Clone, Copy)]
 enum Order {
     Kept,
     Bad(usize),

@@ -6,4 +6,4 @@ use Rattle.listing.specs.declared.Turn.TheVariants as turn
 abbrev pub few : Turn → Type 0
 few (turn.Taken n messages packages) = n ≤ 65536
 few (turn.Refused f) = Unit {0}
-few turn.Unread = Unit {0}
+few (turn.Unread why) = Unit {0}

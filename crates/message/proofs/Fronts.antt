@@ -19,7 +19,7 @@ use Rattle.rules.proofs.Outcomes.{pass, halt, after, step, stop, stop_before, ca
 use Rattle.rules.proofs.Cut as Cut
 use Rattle.rules.proofs.Loops.{rest}
 use Rattle.rules.proofs.Shifted.{shifted, shifted-cut}
-use Rattle.rules.proofs.Passed.{Sound, sound}
+use Rattle.rules.proofs.Passed.{Sound}
 use Rattle.rules.proofs.Run.{run_ends}
 use Rattle.refusal.specs.declared.Why.TheVariants as why
 use Rattle.message.proofs.Checks.{no_numbers}
@@ -29,7 +29,6 @@ use Rattle.message.specs.Answers.{tested_in, head_of, with_run, no_header, heade
 use Rattle.message.specs.declared.Tested.{Tested}
 use Rattle.message.specs.declared.Header.{Header}
 use Rattle.message.specs.declared.HeaderRead.TheVariants as headerRead
-use Rattle.message.specs.declared.Message.{Message}
 use Rattle.message.specs.declared.MessageRead.TheVariants as messageRead
 
 -- ---- checks 1 to 9 of the message at the start of s

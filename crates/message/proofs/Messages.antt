@@ -9,7 +9,7 @@ use lib.Dec.{ltb}
 use lib.ListN.{length, take, drop, length-drop, length-append, length-map}
 use lib.Seq.{drop-cons, length-take-le}
 use Rattle.rules.specs.Outcome.{Outcome, good, bad, refuse, ◌>>◌, ◌>>=◌, LARGE, FRAGMENT, STANDARD, COUNT}
-use Rattle.rules.specs.Bytes.{at, part, one_if_any}
+use Rattle.rules.specs.Bytes.{part, one_if_any}
 use Rattle.rules.specs.Items.{Fills, none, more}
 use Rattle.rules.specs.Options.{count_said, differs}
 use Rattle.rules.specs.Packages.{cut, package_of, Piece}

@@ -1,4 +1,6 @@
 // Chapter 24 read: headers, option runs, packages, messages, and a recording checked.
+#![tactic(auto)]
+
 ghost use Rattle.std.specs.Prelude.{◌≡◌, true, [], ◌+◌, ◌*◌, ◌/◌, ◌<◌, length};
 ghost use Rattle.rules.specs.Outcome.{good};
 ghost use Rattle.rules.specs.Options as options;
@@ -12,14 +14,14 @@ ghost use Rattle.message.specs.Runs as runs;
 use refusal::{Refusal, Why};
 
 // A message id and a package id: one never stands in for the other.
-#[derive(Drop)]
+#[derive(Clone, Copy)]
 pub struct Mdid(pub u32);
 
-#[derive(Drop)]
+#[derive(Clone, Copy)]
 pub struct Pdid(pub u32);
 
 // The numbers of a header that passes checks 1 to 7; `flags` is bits 7 to 0, and `run` how long the option run is.
-#[derive(Drop)]
+#[derive(Clone, Copy)]
 pub struct Header {
     pub words: u8,
     pub flags: u8,
@@ -31,14 +33,14 @@ pub struct Header {
     pub run: usize,
 }
 
-#[derive(Drop)]
+#[derive(Clone, Copy)]
 pub enum HeaderRead {
     Header(Header),
     Refused(Refusal),
 }
 
 // A package: its data are the run's bytes from `from` to `to`, and the next one begins at `next`.
-#[derive(Drop)]
+#[derive(Clone, Copy)]
 pub struct Package {
     pub id: Pdid,
     pub length: u16,
@@ -49,7 +51,7 @@ pub struct Package {
     pub next: usize,
 }
 
-#[derive(Drop)]
+#[derive(Clone, Copy)]
 pub enum PackageRead {
     Package(Package),
     End,
@@ -57,7 +59,7 @@ pub enum PackageRead {
 }
 
 // A message: its payload is the recording's bytes from `payload` to `next`, where the next message begins, and holds `packages` packages.
-#[derive(Drop)]
+#[derive(Clone, Copy)]
 pub struct Message {
     pub header: Header,
     pub payload: usize,
@@ -65,13 +67,13 @@ pub struct Message {
     pub packages: usize,
 }
 
-#[derive(Drop)]
+#[derive(Clone, Copy)]
 pub enum MessageRead {
     Message(Message),
     Refused(Refusal),
 }
 
-#[derive(Drop)]
+#[derive(Clone, Copy)]
 pub enum Checked {
     Passed { messages: usize, packages: usize },
     Refused(Refusal),
@@ -96,7 +98,7 @@ fn wide32(x: u32) -> usize
 }
 
 // The numbers of a header that checks 1 to 6 test. The others are read once these and check 7 have passed.
-#[derive(Drop)]
+#[derive(Clone, Copy)]
 struct Tested {
     version: u8,
     words: u8,
@@ -129,7 +131,7 @@ fn payload_start(words: u8) -> usize
 }
 
 // Whether checks pass.
-#[derive(Drop)]
+#[derive(Clone, Copy)]
 enum Gate {
     Open,
     Shut(Refusal),
@@ -202,7 +204,7 @@ fn length_allowed(k: u8, n: u8) -> bool
 }
 
 // What stands at the start of option bytes: the end of the options, an option with its size, or none that keeps the rules.
-#[derive(Drop)]
+#[derive(Clone, Copy)]
 enum Opt {
     Ends,
     Takes(usize),
@@ -231,7 +233,7 @@ fn option_here(o: &[u8]) -> Opt
 }
 
 // Whether an option of kind 0x86, and one of kind 0x87, has been seen.
-#[derive(Drop)]
+#[derive(Clone, Copy)]
 struct Seen {
     offset: bool,
     count: bool,
@@ -287,7 +289,7 @@ fn option_next(o: &[u8], seen: Seen) -> Opt
 }
 
 // A number, or a refusal.
-#[derive(Drop)]
+#[derive(Clone, Copy)]
 pub enum Count {
     Number(usize),
     Refused(Refusal),
@@ -338,7 +340,7 @@ fn option_step(o: &[u8]) -> usize
 }
 
 // The number of packages that an option run says, if it has an option 0x87.
-#[derive(Drop)]
+#[derive(Clone, Copy)]
 enum Said {
     Nothing,
     Number(u32),
@@ -506,7 +508,7 @@ pub fn option_run(s: &[u8]) -> &[u8]
 }
 
 // How many bytes the package at the start of s takes with its padding, or that none that keeps the rules stands there.
-#[derive(Drop)]
+#[derive(Clone, Copy)]
 enum Piece {
     Takes(usize),
     Bad,
@@ -718,7 +720,7 @@ pub fn message_at(s: &[u8], at: usize) -> MessageRead
 }
 
 // Where a message that passes every check ends, and how many packages it holds; or why it is refused.
-#[derive(Drop)]
+#[derive(Clone, Copy)]
 enum Span {
     Message(usize, usize),
     Refused(Refusal),

@@ -10,7 +10,7 @@ use lib.Dec.{ltb, eqb}
 use lib.ListN.{length, get_or, take, replicate, length-append, length-map}
 use lib.Seq.{take-suc}
 use borrow.Author.Tests.{ltb-true, ltb-false, eqb-false, eq-eqb}
-use Rattle.rules.specs.Items.{count, none}
+use Rattle.rules.specs.Items.{count}
 use Rattle.rules.specs.Packages as rules
 use Rattle.rules.specs.Outcome.{good}
 use Rattle.rules.specs.Packages.{cut, package_of}

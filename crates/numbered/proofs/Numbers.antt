@@ -48,7 +48,7 @@ low-counted x (all_cons {a = n} {l = ns} h a) = go (eqb x n.id) (low-counted x a
 pub low-after : {ns : List Running} (es : List Entry) → All Low ns → All Low (numbers_after ns es)
 unfolding numbers_after
 low-after [] a = a
-low-after (e ∷ es) a = low-after es (low-counted e.id a)
+low-after {ns = ns} (e ∷ es) a = low-after {ns = counted_on e.id ns} es (low-counted e.id a)
 
 pub low-next : (x : ℕ) {ns : List Running} → All Low ns → next_number x ns < 2 ^ 32
 unfolding next_number
@@ -62,7 +62,7 @@ low-next x (all_cons {a = n} {l = ns} h a) = go (eqb x n.id) (low-next x a)
 pub valid_numbered : {ns : List Running} {es : List Entry} → All Low ns → All ValidEntry es → All Valid (numbered_messages ns es)
 unfolding numbered_messages
 valid_numbered a all_nil = all_nil
-valid_numbered {ns} a (all_cons {a = e} v r) = all_cons (valid_copy_message (next_number e.id ns) e (low-next e.id a) v) (valid_numbered (low-counted e.id a) r)
+valid_numbered {ns} a (all_cons {a = e} v r) = all_cons (valid_copy_message (next_number e.id ns) e (low-next e.id a) v) (valid_numbered {ns = counted_on e.id ns} (low-counted e.id a) r)
 
 -- ---- the entries can be told from the messages
 
@@ -138,7 +138,7 @@ pub next-after : (x : ℕ) {ns : List Running} (es : List Entry) → All Low ns 
 unfolding numbers_after count
 next-after x {ns} [] a = let l = low-next x a in omega arith
 next-after x {ns} (e ∷ es) a =
-    next-after x es (low-counted e.id a)
+    next-after x {ns = counted_on e.id ns} es (low-counted e.id a)
     ∙ ap (λ (k : ℕ). (k + count x (map (λ (e : Entry). e.id) es)) % 2 ^ 32) (next-counted x e.id a)
     ∙ carried (next_number x ns) (count x (e.id ∷ [])) (count x (map (λ (e : Entry). e.id) es))
     ∙ ap (λ (k : ℕ). (next_number x ns + k) % 2 ^ 32) (sym (count-cons x e.id (map (λ (e : Entry). e.id) es)))

@@ -1,12 +1,11 @@
 -- The packages of one message: what the two loops over a run keep.
 use Prim.Native.Nat.{ℕ, ◌+◌, ◌-◌, ◌*◌, ◌/◌, ◌%◌, ◌≤◌, ◌<◌}
 use mathlib.Core.Path.{◌≡◌, refl, sym, ap, ap₂, subst, ◌∙◌}
-use mathlib.Core.Logic.{◌⊎◌, ⊎_elim}
+use mathlib.Core.Logic.{⊎_elim}
 use mathlib.Core.Bool.{Bool, true, false, not}
 use mathlib.Core.List.{List, [], ◌∷◌, ◌++◌, map, append-nil, append_assoc}
 use native.Mathlib.Nat.{add-zero}
 use native.Mathlib.Omega.{arith}
-use denote.Enum.Declared.{tag_of}
 use lib.ListN.{length, take, drop, length-append}
 use lib.Dec.{ltb, eqb}
 use lib.Seq.{sets}
@@ -28,7 +27,6 @@ use Rattle.message.specs.declared.HeaderRead.TheVariants as header
 use Rattle.message.specs.declared.Package.{Package}
 use Rattle.message.specs.declared.PackageRead.{PackageRead}
 use Rattle.message.specs.declared.PackageRead.TheVariants as P
-use Rattle.message.specs.contracts.PackageRead.{the_type}
 use Rattle.message.proofs.Moved.{moved, read-moved}
 use Rattle.message.specs.Answers.{told_header, told_package, front_at, payload_from, next_from}
 use Rattle.message.proofs.Fronts.{fronted, front_stopped, front_package, front-count, front-message}
@@ -114,12 +112,12 @@ module _ (keep : List (List ℕ) → List rules.Package) (run : List ℕ) where
       are = g ∙ ap (λ (l : List rules.Package). grow b l (package_of f.c)) inv.are;
     }
 
--- what was read is no package: it has not the first variant
+-- what was read is no package
 abbrev pub NoPackage : PackageRead → Type 0
-NoPackage x = (tag_of the_type x ≡ 1) ⊎ (tag_of the_type x ≡ 2)
+NoPackage x = (p : Package) → x ≡ P.Package p → ⊥
 
 pub no_package : (p : Package) → NoPackage (P.Package p) → ⊥
-no_package p o = ⊎_elim (λ a. let z : ◌≡◌ {A = ℕ} 0 1 = a in omega (arith, z)) (λ a. let z : ◌≡◌ {A = ℕ} 0 2 = a in omega (arith, z)) o
+no_package p o = o p refl
 
 -- ---- measuring
 

@@ -6,7 +6,6 @@ use Rattle.rules.specs.Claims.{TellsApart}
 use Rattle.refusal.proofs.Numbers.{number_positive, same_refusal}
 use Rattle.numbered.specs.declared.Progress.{Progress}
 use Rattle.numbered.specs.declared.Answer.{Answer}
-use Rattle.numbered.specs.declared.Answer.TheVariants as Answer
 use Rattle.numbered.specs.declared.Numbered.{Numbered}
 use Rattle.numbered.specs.Numbering.{State}
 use Rattle.numbered.specs.Quota.{Report}

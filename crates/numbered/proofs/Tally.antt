@@ -8,7 +8,7 @@ use lib.Dec.{leb, ltb, eqb}
 use lib.ListN.{length, take, drop, length-append, length-map}
 use borrow.Author.Tests.{le-ltb, lt-ltb, ltb-true, ltb-false, leb-true, leb-false}
 use Rattle.rules.specs.Outcome.{good, bad}
-use Rattle.rules.specs.Message.{head, message}
+use Rattle.rules.specs.Message.{head}
 use Rattle.rules.specs.Sheet as rows
 use Rattle.rules.specs.Items.{count}
 use Rattle.rules.specs.Packages as rules

@@ -15,7 +15,7 @@ use Rattle.rules.specs.Message as messages
 use Rattle.rules.specs.Message.{Head, head, payload_start, every_check, message}
 use Rattle.rules.specs.Sheet as rows
 use Rattle.rules.specs.Copy.{Entry, with_entry_of, released}
-use Rattle.rules.proofs.Outcomes.{stop, passed, good_inj, good≢bad}
+use Rattle.rules.proofs.Outcomes.{stop, good_inj, good≢bad}
 use Rattle.rules.proofs.Growing.{released-append}
 use Rattle.rules.proofs.Loops.{Doing, doing_start, doing_end, doing_bad, sets-sets, done-part}
 use Rattle.message.specs.declared.Message.{Message}

@@ -1,6 +1,8 @@
 // The copy of an input's messages, numbered on from ids and numbers that are lent: the first so many messages or all there are, measured alone or
 // measured and then written. The single copy and the step are both uses of it. Measuring goes over the messages once and finds every refusal but
 // ROOM; writing goes over them once more.
+#![tactic(auto)]
+
 ghost use Rattle.std.specs.Prelude.{◌≡◌, [], false, ◌+◌, ◌-◌, ◌*◌, ◌%◌, ◌^◌, ◌≤◌, ◌<◌, ltb, length, get_or, take, drop};
 ghost use Rattle.std.proofs.lemmas.List.Edits.{sets};
 ghost use Rattle.rules.specs.Bytes.{put32};
@@ -20,7 +22,7 @@ use sheet::{TableAnswer, near_grants, near_rows, read_table, source_of};
 use wire::{bit_at, put_bit, put_byte, put_part, put_word, word_at};
 
 // The granted packages of a message: how many, and the bytes that they take.
-#[derive(Drop)]
+#[derive(Clone, Copy)]
 struct Size {
     bytes: usize,
     packages: usize,
@@ -41,7 +43,7 @@ fn with_package(s: Size, n: usize, granted: bool) -> Size
 }
 
 // A walk over the packages of a run: what is granted of them, how many there are, and the place behind the last.
-#[derive(Drop)]
+#[derive(Clone, Copy)]
 struct Walked {
     size: Size,
     all: usize,
@@ -89,7 +91,7 @@ fn measure_packages(
 }
 
 // A message that passes every check, and what is granted of it; or why it is refused.
-#[derive(Drop)]
+#[derive(Clone, Copy)]
 enum MessageTaken {
     Message(Message, Size),
     Refused(Refusal),
@@ -154,7 +156,7 @@ fn take_message(
 }
 
 // What the copy takes so far.
-#[derive(Drop)]
+#[derive(Clone, Copy)]
 struct Totals {
     bytes: usize,
     messages: usize,
@@ -177,7 +179,7 @@ fn with_entry(t: Totals, s: Size) -> Totals
 }
 
 // What is taken from the input, messages and bytes, and what is written.
-#[derive(Drop)]
+#[derive(Clone, Copy)]
 pub struct Progress {
     pub handled: usize,
     pub consumed: usize,
@@ -186,7 +188,7 @@ pub struct Progress {
     pub packages: usize,
 }
 
-#[derive(Drop)]
+#[derive(Clone, Copy)]
 pub enum Answer {
     Done(Progress),
     Refused(Refusal),
@@ -225,7 +227,7 @@ fn taken_with(handled: usize, consumed: usize, t: Totals) -> Progress
 }
 
 // How many fresh ids the messages so far brought, and the place of the message that brought the last of them.
-#[derive(Drop)]
+#[derive(Clone, Copy)]
 struct Seats {
     many: usize,
     over: usize,
@@ -284,7 +286,7 @@ fn judged(p: Progress, seats: Seats, room: usize) -> Answer
 }
 
 // What measuring comes to, and how many fresh ids it brought.
-#[derive(Drop)]
+#[derive(Clone, Copy)]
 struct Counted {
     answer: Answer,
     many: usize,
@@ -415,7 +417,7 @@ fn write_granted(run: &[u8], p: Package, granted: bool, out: &mut [u8], at: usiz
 }
 
 // The packages of a run that were stored: the bytes that they take, and how many packages the run has.
-#[derive(Drop)]
+#[derive(Clone, Copy)]
 struct Kept {
     bytes: usize,
     all: usize,
@@ -472,7 +474,7 @@ fn write_head(out: &mut [u8], at: usize, h: Header, sequence: u32, size: u32)
 }
 
 // Where the copy ends so far, and how many ids it has delivered.
-#[derive(Drop)]
+#[derive(Clone, Copy)]
 struct Reached {
     to: usize,
     held: usize,
@@ -682,7 +684,7 @@ fn room_of(most: usize, held: usize, measured: bool) -> usize
     most - held
 }
 
-#[derive(Drop)]
+#[derive(Clone, Copy)]
 pub struct Numbered {
     pub answer: Answer,
     pub held: usize,

@@ -1,5 +1,7 @@
 // A tenant taken out of a recording, in the recording's own buffer. Everything is checked before the first store. Then one pass goes through
 // the buffer with two places: what is kept is stored from the front on, and the place where it ends is never ahead of the place that is read next.
+#![tactic(auto)]
+
 ghost use Rattle.std.specs.Prelude.{◌≡◌, [], ◌+◌, ◌≤◌, length, drop};
 ghost use Rattle.std.proofs.lemmas.List.Edits.{sets};
 ghost use Rattle.rules.specs.Bytes.{pad, part, padded};
@@ -72,7 +74,7 @@ fn move_down(s: &mut [u8], to: usize, from: usize, n: usize)
 }
 
 // What is left of a message's packages: how many, and the bytes that they take.
-#[derive(Drop)]
+#[derive(Clone, Copy)]
 struct Left {
     bytes: usize,
     packages: usize,

@@ -138,4 +138,4 @@ module _ (s : List ℕ) (p : ℕ) where
 -- ---- a signed byte that is kept
 
 pub read-signed : (b : ℕ) → b < 256 → to_z w8 (of_z w8 (signed b)) ≡ signed b
-read-signed b h = to_z-of_z (record { sfits = signed-fits b h })
+read-signed b h = to_z-of_z {w = w8} {z = signed b} (record { sfits = signed-fits b h })

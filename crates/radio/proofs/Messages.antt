@@ -13,7 +13,7 @@ use lib.ListN.{length, take, drop, length-append, length-drop}
 use lib.Seq.{drop-drop, sets, length-sets}
 use Rattle.rules.specs.Outcome.{good, bad, refuse, ◌>>◌}
 use Rattle.refusal.specs.Numbers.{RADIO}
-use Rattle.rules.specs.Bytes.{Bytes, at, half, word, put16, put32}
+use Rattle.rules.specs.Bytes.{Bytes, half, word, put16, put32}
 use Rattle.rules.specs.Items.{items, All, all_nil, all_cons}
 use Rattle.rules.proofs.Outcomes.{step, stop, pass, halt, stop_before, pass_last, after, stepped, passed, passed-last, came_after, front_of_lem, fronted, good_inj}
 use Rattle.rules.proofs.Numbers.{word-put32, half-put16, half_lt, word_lt, bytes-tail, bytes_drop}

@@ -7,7 +7,7 @@ use native.Mathlib.Omega.{arith}
 use lib.IntN.{ℤ, pos, negsuc, nat_abs}
 use lib.Dec.{lit<}
 use lib.Pow.{pow-add, pow_pos, pow_mono, shl_lt}
-use lib.Ieee.{Float, fin, binary64, up, down, round, div, of_int}
+use lib.Ieee.{Float, nan, inf, fin, binary64, up, down, round, div, of_int}
 use lib.Ieee.Fits.{down_pos}
 use lib.Ieee.Exact.{HasValue, round_exact}
 use lib.Ieee.Back.{round_whole}
@@ -30,6 +30,8 @@ quotient_exact (negsuc n) k h l = exact true (suc n) k h l
 
 -- a double is one quotient alone
 value_same : (x : Float) (s t : Bool) (m n d : ℕ) → HasValue x s m d → HasValue x t n d → (s ≡ t) × (m ≡ n)
+value_same nan s t m n d v w = elim v [ ]
+value_same (inf _) s t m n d v w = elim v [ ]
 value_same (fin r k e) s t m n d v w = (sym v.0 ∙ w.0, eq_of_mul-eq-mul_right (down e) (down_pos e) m n (sym v.1 ∙ w.1))
 
 pub exact_same : (x : Float) (y z : ℤ) (d : ℕ) → IsExactly x y d → IsExactly x z d → y ≡ z
@@ -41,6 +43,8 @@ exact_same x (negsuc m) (negsuc n) d v w = let e : suc m ≡ suc n = (value_same
 -- a double of the value n, divided by the double 2 ^ k, is the double nearest to n / 2 ^ k
 divided : (x : Float) (n k : ℕ) → HasValue x false n 1 → div binary64 x (fin false 1 (pos k)) ≡ round binary64 false n (2 ^ k)
 unfolding div
+divided nan n k v = elim v [ ]
+divided (inf _) n k v = elim v [ ]
 divided (fin true m e) n k v = absurd (true≢false v.0)
 divided (fin false m e) n k v =
     round_same binary64 false (m * up e * 1) (1 * 2 ^ k * down e) n (2 ^ k) (mul-pos (mul-pos (lit< tt) (pow_pos k)) (down_pos e)) (pow_pos k)

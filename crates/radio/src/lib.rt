@@ -1,4 +1,6 @@
 // RF network messages: a header, then TLVs. They are read TLV by TLV, written from a run of TLVs, and a link metric becomes a row of doubles.
+#![tactic(auto)]
+
 ghost use Rattle.std.specs.Prelude.{◌≡◌, true, ◌&&◌, [], leb, ◌+◌, ◌*◌, ◌/◌, ◌%◌, ◌≤◌, ◌<◌, pos, length};
 ghost use Rattle.std.proofs.lemmas.List.Edits.{sets};
 ghost use Rattle.compose.specs.Told.{told};
@@ -12,7 +14,7 @@ use compose::Written;
 use refusal::{Refusal, Why};
 
 // The numbers of a header beside its length.
-#[derive(Drop)]
+#[derive(Clone, Copy)]
 pub struct Head {
     pub destination: u16,
     pub source: u16,
@@ -20,7 +22,7 @@ pub struct Head {
 }
 
 // A transmission opportunity: centre frequency in units of 250 kHz, start and stop in microseconds of the epoch.
-#[derive(Drop)]
+#[derive(Clone, Copy)]
 pub struct TxOp {
     pub frequency: u16,
     pub id: u16,
@@ -29,14 +31,14 @@ pub struct TxOp {
     pub stop: u32,
 }
 
-#[derive(Drop)]
+#[derive(Clone, Copy)]
 pub struct Heartbeat {
     pub timeout: u16,
 }
 
 // A link metric: the low 6 bits of its second and its microseconds, centre frequency in units of 250 kHz, RSSI in dBm and CINR in dB,
 // -128 where there is none, and the error rate in units of 1/256, 0 where there is none.
-#[derive(Drop)]
+#[derive(Clone, Copy)]
 pub struct LinkMetric {
     pub seconds: u8,
     pub micros: u32,
@@ -47,7 +49,7 @@ pub struct LinkMetric {
 }
 
 // A report of the eight traffic engineering queues, their levels in units of 64 bytes.
-#[derive(Drop)]
+#[derive(Clone, Copy)]
 pub struct QueueReport {
     pub seconds: u8,
     pub micros: u32,
@@ -62,7 +64,7 @@ pub struct QueueReport {
     pub level7: u16,
 }
 
-#[derive(Drop)]
+#[derive(Clone, Copy)]
 pub enum Tlv {
     TxOp(TxOp),
     Heartbeat(Heartbeat),
@@ -71,7 +73,7 @@ pub enum Tlv {
 }
 
 // A reading of the plotting tool.
-#[derive(Drop)]
+#[derive(Clone, Copy)]
 pub enum Reading {
     Missing,
     Level(f64),
@@ -79,7 +81,7 @@ pub enum Reading {
 }
 
 // A link metric for the plotting tool: centre frequency in MHz, RSSI in dBm, CINR in dB, and the error rate.
-#[derive(Drop)]
+#[derive(Clone, Copy)]
 pub struct LinkRow {
     pub frequency: f64,
     pub rssi: Reading,
@@ -88,14 +90,14 @@ pub struct LinkRow {
 }
 
 // A message that passes, with the number of its TLVs.
-#[derive(Drop)]
+#[derive(Clone, Copy)]
 pub enum RadioRead {
     Message { head: Head, tlvs: usize },
     Refused(Refusal),
 }
 
 // What stands at a place of a message: a TLV, with the place behind it, the end, or none that keeps the rules.
-#[derive(Drop)]
+#[derive(Clone, Copy)]
 pub enum TlvRead {
     Tlv { tlv: Tlv, next: usize },
     End,
@@ -103,14 +105,14 @@ pub enum TlvRead {
 }
 
 // A TLV, or a refusal.
-#[derive(Drop)]
+#[derive(Clone, Copy)]
 enum Found {
     Tlv(Tlv),
     Refused(Refusal),
 }
 
 // A number, or a refusal.
-#[derive(Drop)]
+#[derive(Clone, Copy)]
 enum Count {
     Number(usize),
     Refused(Refusal),

@@ -1,5 +1,7 @@
 // The single copy: what a recording releases under an order sheet, measured first and then written. Both are uses of `numbered::copy`: no id is held
 // before, so that the sequence numbers are counted afresh, and the quota is the whole recording.
+#![tactic(auto)]
+
 ghost use Rattle.std.specs.Prelude.{◌≡◌};
 ghost use Rattle.rules.specs.Copy.{measurement, copy};
 ghost use Rattle.numbered.specs.Quota.{copy_of};
@@ -10,7 +12,7 @@ use numbered::{Answer as Reply, copy};
 use refusal::Refusal;
 
 // What a copy takes, and what it reports.
-#[derive(Drop)]
+#[derive(Clone, Copy)]
 pub struct Totals {
     pub bytes: usize,
     pub messages: usize,
@@ -18,7 +20,7 @@ pub struct Totals {
 }
 
 // What measuring and writing answer.
-#[derive(Drop)]
+#[derive(Clone, Copy)]
 pub enum Answer {
     Totals(Totals),
     Refused(Refusal),

@@ -21,14 +21,7 @@ use Rattle.step.specs.declared.State.{State}
 use Rattle.step.specs.declared.Stepped.{Stepped}
 use Rattle.step.proofs.Steps.{done, handles, fits_after}
 use Rattle.step.proofs.Claims.{measured-step}
-use Rattle.windows.specs.Window.{handed_over}
-use Rattle.windows.specs.Told.{told_handed}
-use Rattle.windows.specs.declared.Handed.{Handed}
-use Rattle.windows.specs.declared.Handed.TheVariants as handed
-use Rattle.windows.proofs.Windows.{hands_over}
-use Rattle.files.specs.Filled.{within, below}
-use Rattle.files.specs.declared.Filled.{Filled}
-use Rattle.files.specs.declared.Filled.TheVariants as file
+use Rattle.std.specs.declared.io.Error.{Error}
 use Rattle.release_long.specs.declared.Done as reached
 use Rattle.release_long.specs.declared.Turn.{Turn}
 use Rattle.release_long.specs.declared.Turn.TheVariants as turn
@@ -165,13 +158,9 @@ pub refused-on : (sheet : List ℕ) (writes : Bool) (before : rule.State) (f : R
 unfolding turned_on
 refused-on sheet writes before f state = tt
 
-pub unread-on : (sheet : List ℕ) (writes : Bool) (before : rule.State) (state : State) → turned_on sheet writes before (record { turn = turn.Unread; state = state })
+pub unread-on : (sheet : List ℕ) (writes : Bool) (before : rule.State) (why : Error) (state : State) → turned_on sheet writes before (record { turn = turn.Unread why; state = state })
 unfolding turned_on
-unread-on sheet writes before state = tt
-
--- what is handed over lies in the window
-pub handed-inside : (goesOn : Bool) (window : List ℕ) (h : Handed) (n : ℕ) → h ≡ handed.Bytes n → told_handed h ≡ handed_over goesOn window → n ≤ length window
-handed-inside goesOn window h n e f = (hands_over goesOn window n (sym (ap told_handed (sym e) ∙ f))).inside
+unread-on sheet writes before why state = tt
 
 -- a turn that takes bytes
 pub taken : (sheet : List ℕ) (writes : Bool) (before : rule.State) (r : Turned) (n : ℕ) (p : Progress) → r.turn ≡ turn.Taken n p → turned_on sheet writes before r → Onward sheet writes before (state_in r.state) n
@@ -186,17 +175,10 @@ pub passed-refused : (sheet : List ℕ) (why : Why) (place : ℕ) → passed_on 
 unfolding passed_on
 passed-refused sheet why place = tt
 
-pub passed-unread : (sheet : List ℕ) → passed_on sheet pass.Unread
+pub passed-unread : (sheet : List ℕ) (why : Error) → passed_on sheet (pass.Unread why)
 unfolding passed_on
-passed-unread sheet = tt
+passed-unread sheet why = tt
 
-pub passed-unwritten : (sheet : List ℕ) → passed_on sheet pass.Unwritten
+pub passed-unwritten : (sheet : List ℕ) (why : Error) → passed_on sheet (pass.Unwritten why)
 unfolding passed_on
-passed-unwritten sheet = tt
-
--- what was read lies in the buffer, and what was counted is not too much
-pub filled : (got : Filled) (buffer : List ℕ) (n : ℕ) → got ≡ file.Bytes n → within got buffer → n ≤ length buffer
-filled got buffer n e h = subst (λ (x : Filled). within x buffer) e h
-
-pub counted : (got : Filled) (most n : ℕ) → got ≡ file.Bytes n → below got most → n ≤ most
-counted got most n e h = subst (λ (x : Filled). below x most) e h
+passed-unwritten sheet why = tt

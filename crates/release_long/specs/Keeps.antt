@@ -31,13 +31,13 @@ if_done (Refused f) fact = Unit {0}
 abbrev pub if_taken : Turn → (ℕ → Type 0) → Type 0
 if_taken (turn.Taken n p) fact = fact n
 if_taken (turn.Refused f) fact = Unit {0}
-if_taken turn.Unread fact = Unit {0}
+if_taken (turn.Unread why) fact = Unit {0}
 
 abbrev pub if_whole : Pass → (ℕ → Type 0) → Type 0
 if_whole (pass.Whole d) fact = fact d.place
 if_whole (pass.Refused why place) fact = Unit {0}
-if_whole pass.Unread fact = Unit {0}
-if_whole pass.Unwritten fact = Unit {0}
+if_whole (pass.Unread why) fact = Unit {0}
+if_whole (pass.Unwritten why) fact = Unit {0}
 
 -- a pass that writes keeps the very state that steps lead to; one that measures alone, its ids
 abbrev pub Follows : Bool → rule.State → rule.State → Type 0

@@ -1,15 +1,18 @@
 // release_long RECORDING SHEET: writes the copy of a recording of any length to standard output, or the line `refused NUMBER PLACE`. It goes over the
 // recording twice, window by window, in steps: the first time they are only measured, and the second time written, if none was refused. At the end a line on
 // standard error says what was done. Where a third argument says the recording's size, a line on standard error tells how far it is.
+#![tactic(auto)]
+
 ghost use Rattle.std.specs.Prelude.{◌≡◌, ℕ, ◌+◌, ◌≤◌, List, length};
 ghost use Rattle.step.specs.Told.{state_in};
 ghost use Rattle.release_long.specs.Keeps.{fresh, stepped_on, turned_on, passed_on};
 
 use files::{Filled, Opened};
-use libc::{STDERR_FILENO, STDOUT_FILENO};
 use numbered::{Answer, Progress};
 use refusal::{Refusal, Why};
-use std::num::wrapping_add_u64;
+use std::env::Env;
+use std::fs::File;
+use std::io::{Error, ErrorKind};
 use step::{State, Stepped};
 use windows::Handed;
 
@@ -35,16 +38,16 @@ fn step_over(part: &[u8], sheet: &[u8], state: State, writes: bool, out: &mut [u
     step::measure(part, sheet, 65537, state)
 }
 
-// What a window comes to: so many of its bytes are taken, with what that wrote; or it is refused; or the recording can't be read.
-#[derive(Drop)]
+// What a window comes to: so many of its bytes are taken, with what that wrote; or it is refused; or the recording can't be read, and why.
+#[derive(Clone, Copy)]
 enum Turn {
     Taken(usize, Progress),
     Refused(Refusal),
-    Unread,
+    Unread(Error),
 }
 
 // A turn, and the state after it.
-#[derive(Drop)]
+#[derive(Clone, Copy)]
 struct Turned {
     turn: Turn,
     state: State,
@@ -144,7 +147,7 @@ fn take_read(
 
 // The turn that begins at a place of the recording, in buffers that are lent: what the window before it kept back is read again.
 fn take_turn(
-    recording: i32,
+    recording: &mut File,
     place: u64,
     sheet: &[u8],
     state: State,
@@ -155,56 +158,62 @@ fn take_turn(
     ensures { turned_on sheet.now writes (state_in state) result }
 {
     let got = files::fill_from(recording, place, window);
-    let Filled::Bytes(n) = got else {
-        return Turned {
-            turn: Turn::Unread,
+    match got {
+        Filled::Failed(e) => Turned {
+            turn: Turn::Unread(e),
             state,
-        };
-    };
-    take_read(window, n, sheet, state, writes, out)
+        },
+        Filled::Bytes(n) => take_read(window, n, sheet, state, writes, out),
+    }
 }
 
-// What is gathered of the copy: so many bytes at the start of a buffer. Where bytes could not be written, it failed.
-#[derive(Drop)]
+// What is gathered of the copy: so many bytes at the start of a buffer. Where bytes could not be written, it failed, and why.
+#[derive(Clone, Copy)]
 struct Gathered {
     used: usize,
-    failed: bool,
+    failed: Option<Error>,
 }
 
 // What is gathered after a turn that took n bytes, and wrote into the buffer behind the first `used`. It is written where less than a window's 65,536
 // bytes are left of the 524,288, and where nothing was taken, so that no turn follows. A pass that measures alone gathers nothing.
-fn gather(out: &[u8], used: usize, n: usize, p: Progress, writes: bool) -> Gathered
+fn gather(
+    rt: &HostRuntime,
+    out: &[u8],
+    used: usize,
+    n: usize,
+    p: Progress,
+    writes: bool,
+) -> Gathered
     requires { used ≤ length out.now }
     ensures { result.used ≤ 458752 }
 {
     if !writes {
         return Gathered {
             used: 0,
-            failed: false,
+            failed: None,
         };
     }
     if out.len() - used < p.bytes {
         return Gathered {
             used: 0,
-            failed: true,
+            failed: Some(Error::from(ErrorKind::WriteZero)),
         };
     }
     let all = used + p.bytes;
     if 0 < n && all <= 458752 {
         return Gathered {
             used: all,
-            failed: false,
+            failed: None,
         };
     }
-    let written = io::write_all(STDOUT_FILENO, &out[..all]);
     Gathered {
         used: 0,
-        failed: !written,
+        failed: rt.write_all(&out[..all]).err(),
     }
 }
 
 // What is done so far: the place in the recording up to which it is taken, the messages handled, and what was written.
-#[derive(Drop)]
+#[derive(Clone, Copy)]
 struct Done {
     place: u64,
     handled: u64,
@@ -232,10 +241,10 @@ fn with_part(d: Done, n: usize, p: Progress) -> Done
 {
     Done {
         place: d.place + n as u64,
-        handled: wrapping_add_u64(d.handled, p.handled as u64),
-        bytes: wrapping_add_u64(d.bytes, p.bytes as u64),
-        messages: wrapping_add_u64(d.messages, p.messages as u64),
-        packages: wrapping_add_u64(d.packages, p.packages as u64),
+        handled: d.handled.wrapping_add(p.handled as u64),
+        bytes: d.bytes.wrapping_add(p.bytes as u64),
+        messages: d.messages.wrapping_add(p.messages as u64),
+        packages: d.packages.wrapping_add(p.packages as u64),
     }
 }
 
@@ -248,17 +257,17 @@ fn same(a: Done, b: Done) -> bool {
 }
 
 // What going over the recording comes to; a refusal has its place in the whole recording.
-#[derive(Drop)]
+#[derive(Clone, Copy)]
 enum Pass {
     Whole(Done),
     Refused(Why, u64),
-    Unread,
-    Unwritten,
+    Unread(Error),
+    Unwritten(Error),
 }
 
 // How far it is, for whoever waits: a line that is rewritten every 4 megabytes, which pass it is and the bytes of all bytes. Their number is shown as it was
 // handed in, and nothing is told where it was not.
-#[derive(Drop)]
+#[derive(Clone, Copy)]
 struct Tells {
     pass: u8,
     size: [u8; 20],
@@ -266,9 +275,9 @@ struct Tells {
 }
 
 // The size that the third argument says.
-fn tells_by_argument() -> Tells {
+fn tells_by_argument(rt: &HostRuntime) -> Tells {
     let mut size = [0u8; 20];
-    let digits = os::arg(3, &mut size);
+    let digits = rt.arg(3, &mut size).unwrap_or(0);
     Tells {
         pass: 1,
         size,
@@ -276,7 +285,7 @@ fn tells_by_argument() -> Tells {
     }
 }
 
-fn tell(t: Tells, place: u64) {
+fn tell(rt: &HostRuntime, t: Tells, place: u64) {
     let size = t.size;
     let n = t.digits;
     if n == 0 {
@@ -286,21 +295,23 @@ fn tell(t: Tells, place: u64) {
         return;
     }
     if place % 4194304 < 65536 {
-        io::write_all(STDERR_FILENO, b"\rpass ");
-        io::print_decimal(STDERR_FILENO, t.pass as u64);
-        io::write_all(STDERR_FILENO, b" of 2: ");
-        io::print_decimal(STDERR_FILENO, place);
-        io::write_all(STDERR_FILENO, b" of ");
-        io::write_all(STDERR_FILENO, &size[..n]);
-        io::write_all(STDERR_FILENO, b" bytes");
+        let pass = t.pass;
+        let _ = eprint!(rt; "\rpass {pass} of 2: {place} of ");
+        let _ = rt.stderr().write_all(&size[..n]);
+        let _ = eprint!(rt; " bytes");
     }
 }
 
 // The line that is rewritten ends before anything else is said.
-fn end_line(t: Tells) {
+fn end_line(rt: &HostRuntime, t: Tells) {
     if 0 < t.digits {
-        io::write_all(STDERR_FILENO, b"\n");
+        let _ = eprintln!(rt);
     }
+}
+
+// A recording that has more turns than are taken can't be read to its end.
+fn unending() -> Error {
+    Error::from(ErrorKind::FileTooLarge)
 }
 
 // The pass whose turn at this place is refused or unread.
@@ -310,15 +321,16 @@ fn stopped(turn: Turn, place: u64) -> Pass
     match turn {
         Turn::Refused(f) => {
             let why = f.why;
-            Pass::Refused(why, wrapping_add_u64(place, f.place as u64))
+            Pass::Refused(why, place.wrapping_add(f.place as u64))
         }
-        _ => Pass::Unread,
+        Turn::Unread(e) => Pass::Unread(e),
+        Turn::Taken(_, _) => Pass::Unread(unending()),
     }
 }
 
 // Goes over the recording from its first byte, turn by turn; one that takes nothing is the end. Each is lent what is left of the buffer in which the copy is
 // gathered. A proved loop has to end: the turns are more than any recording takes.
-fn go_over(recording: i32, sheet: &[u8], writes: bool, tells: Tells) -> Pass
+fn go_over(rt: &HostRuntime, recording: &mut File, sheet: &[u8], writes: bool, tells: Tells) -> Pass
     ensures { passed_on sheet.now result }
 {
     let mut window = [0u8; 65537];
@@ -341,9 +353,9 @@ fn go_over(recording: i32, sheet: &[u8], writes: bool, tells: Tells) -> Pass
         let Turn::Taken(n, p) = taken else {
             return stopped(taken, done.place);
         };
-        let gathered = gather(&out, used, n, p, writes);
-        if gathered.failed {
-            return Pass::Unwritten;
+        let gathered = gather(rt, &out, used, n, p, writes);
+        if let Some(e) = gathered.failed {
+            return Pass::Unwritten(e);
         }
         if n == 0 {
             return Pass::Whole(done);
@@ -352,78 +364,72 @@ fn go_over(recording: i32, sheet: &[u8], writes: bool, tells: Tells) -> Pass
         let after = turned.state;
         state = after;
         done = with_part(done, n, p);
-        tell(tells, done.place);
+        tell(rt, tells, done.place);
         turns -= 1;
     }
-    Pass::Unread
+    Pass::Unread(unending())
 }
 
-fn refuse(why: Why, place: u64) {
-    io::write_all(STDOUT_FILENO, b"refused ");
-    io::print_decimal(STDOUT_FILENO, refusal::number_of(why) as u64);
-    io::write_all(STDOUT_FILENO, b" ");
-    io::print_decimal(STDOUT_FILENO, place);
-    io::write_all(STDOUT_FILENO, b"\n");
+fn refuse(rt: &HostRuntime, why: Why, place: u64) {
+    let number = refusal::number_of(why);
+    let _ = println!(rt; "refused {number} {place}");
 }
 
 // What was done, in a line.
-fn sum_up(d: Done) {
-    io::print_decimal(STDERR_FILENO, d.handled);
-    io::write_all(STDERR_FILENO, b" messages handled, ");
-    io::print_decimal(STDERR_FILENO, d.place);
-    io::write_all(STDERR_FILENO, b" bytes; written: ");
-    io::print_decimal(STDERR_FILENO, d.messages);
-    io::write_all(STDERR_FILENO, b" messages, ");
-    io::print_decimal(STDERR_FILENO, d.packages);
-    io::write_all(STDERR_FILENO, b" packages, ");
-    io::print_decimal(STDERR_FILENO, d.bytes);
-    io::write_all(STDERR_FILENO, b" bytes\n");
-}
-
-fn changed() {
-    io::write_all(
-        STDERR_FILENO,
-        b"the recording changed while it was copied; the copy is not whole\n",
+fn sum_up(rt: &HostRuntime, d: Done) {
+    let Done {
+        place,
+        handled,
+        bytes,
+        messages,
+        packages,
+    } = d;
+    let _ = eprintln!(rt;
+        "{handled} messages handled, {place} bytes; written: {messages} messages, {packages} packages, {bytes} bytes"
     );
 }
 
+fn changed(rt: &HostRuntime) {
+    let _ = eprintln!(rt; "the recording changed while it was copied; the copy is not whole");
+}
+
 // The end of the second pass. Where it answers otherwise than the first, the recording changed between them.
-fn finish(first: Done, second: Pass) {
+fn finish(rt: &HostRuntime, first: Done, second: Pass) {
     match second {
         Pass::Whole(d) => {
             if same(first, d) {
-                sum_up(d);
+                sum_up(rt, d);
             } else {
-                changed();
+                changed(rt);
             }
         }
-        Pass::Refused(_, _) => changed(),
-        Pass::Unread => os::fail(b"recording"),
-        Pass::Unwritten => os::fail(b"standard output"),
+        Pass::Refused(_, _) => changed(rt),
+        Pass::Unread(e) => files::fail(rt, b"recording", e),
+        Pass::Unwritten(e) => files::fail(rt, b"standard output", e),
     }
 }
 
 // The second pass, where the first refused nothing.
-fn write_copy(recording: i32, sheet: &[u8], first: Done, tells: Tells) {
+fn write_copy(rt: &HostRuntime, recording: &mut File, sheet: &[u8], first: Done, tells: Tells) {
     let size = tells.size;
     let again = Tells {
         pass: 2,
         size,
         digits: tells.digits,
     };
-    let second = go_over(recording, sheet, true, again);
-    end_line(tells);
-    finish(first, second);
+    let second = go_over(rt, recording, sheet, true, again);
+    end_line(rt, tells);
+    finish(rt, first, second);
 }
 
-fn copy(recording: i32, sheet: &[u8], tells: Tells) {
-    let first = go_over(recording, sheet, false, tells);
-    end_line(tells);
+fn copy(rt: &HostRuntime, recording: &mut File, sheet: &[u8], tells: Tells) {
+    let first = go_over(rt, recording, sheet, false, tells);
+    end_line(rt, tells);
     match first {
-        Pass::Whole(d) => write_copy(recording, sheet, d, tells),
-        Pass::Refused(why, place) => refuse(why, place),
-        Pass::Unread => os::fail(b"recording"),
-        Pass::Unwritten => os::fail(b"standard output"),
+        Pass::Whole(d) => write_copy(rt, recording, sheet, d, tells),
+        Pass::Refused(why, place) => refuse(rt, why, place),
+        Pass::Unread(e) => files::fail(rt, b"recording", e),
+        Pass::Unwritten(e) => files::fail(rt, b"standard output", e),
     }
 }
 
@@ -434,57 +440,55 @@ fn check_sheet(sheet: &[u8]) -> Answer {
     stepped.answer
 }
 
-fn with_sheet(recording: i32, sheet: &[u8], tells: Tells) {
+fn with_sheet(rt: &HostRuntime, recording: &mut File, sheet: &[u8], tells: Tells) {
     match check_sheet(sheet) {
-        Answer::Done(_) => copy(recording, sheet, tells),
+        Answer::Done(_) => copy(rt, recording, sheet, tells),
         Answer::Refused(f) => {
             let why = f.why;
-            refuse(why, f.place as u64);
+            refuse(rt, why, f.place as u64);
         }
     }
 }
 
 // A sheet that is too long is refused by its whole length, which is counted to the file's end.
-fn too_long(sheet: i32) {
+fn too_long(rt: &HostRuntime, sheet: &mut File) {
     let rest = files::rest_of(sheet);
     match rest {
-        Filled::Failed => os::fail(b"sheet"),
-        Filled::Bytes(n) => refuse(Why::Row, 1025 + n as u64),
+        Filled::Failed(e) => files::fail(rt, b"sheet", e),
+        Filled::Bytes(n) => refuse(rt, Why::Row, 1025 + n as u64),
     }
 }
 
-fn answer(recording: i32, sheet_file: i32, tells: Tells) {
+fn answer(rt: &HostRuntime, recording: &mut File, sheet_file: &mut File, tells: Tells) {
     let mut sheet = [0u8; 1025];
     let got = files::fill(sheet_file, &mut sheet);
     match got {
-        Filled::Failed => os::fail(b"sheet"),
+        Filled::Failed(e) => files::fail(rt, b"sheet", e),
         Filled::Bytes(n) => {
             if n <= 1024 {
-                with_sheet(recording, &sheet[..n], tells);
+                with_sheet(rt, recording, &sheet[..n], tells);
             } else {
                 // The buffer is full.
-                too_long(sheet_file);
+                too_long(rt, sheet_file);
             }
         }
     }
 }
 
-fn main() {
-    let words = os::arg_count();
+fn main(rt: HostRuntime) {
+    let words = files::arg_count(&rt, 5);
     if words != 3 && words != 4 {
-        io::write_all(
-            STDERR_FILENO,
-            b"usage: release_long RECORDING SHEET [SIZE]\n",
-        );
+        let _ = eprintln!(rt; "usage: release_long RECORDING SHEET [SIZE]");
         return;
     }
-    let recording = files::open_arg(1);
-    let Opened::File(recording_file) = recording else {
+    let recording = files::open_arg(&rt, 1);
+    let Opened::File(mut recording_file) = recording else {
         return;
     };
-    let sheet = files::open_arg(2);
-    let Opened::File(sheet_file) = sheet else {
+    let sheet = files::open_arg(&rt, 2);
+    let Opened::File(mut sheet_file) = sheet else {
         return;
     };
-    answer(recording_file, sheet_file, tells_by_argument());
+    let tells = tells_by_argument(&rt);
+    answer(&rt, &mut recording_file, &mut sheet_file, tells);
 }

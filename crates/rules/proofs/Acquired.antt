@@ -92,6 +92,7 @@ kept ns ms a = rw (all_without ns) (kept_by_lem (map row_of ns) ms a)
 
 module _ (m : Message) (e : is_simulated m.flags ≡ true) where
   outside : {rows : List Row} → All (λ (r : Row). r.acquired_only ≡ true) rows → (k : Package) → Some (InRanges m k) rows → ⊥
+  outside all_nil k s = elim s [ ]
   outside (all_cons o a) k (here i) = omega (arith, eqb-true (m.flags / 8 % 2) 1 e, i.6 o)
   outside (all_cons o a) k (there s) = outside a k s
 

@@ -14,7 +14,7 @@ use Rattle.rules.specs.Items.{passing, count}
 use Rattle.rules.specs.Packages.{Package, package_time}
 use Rattle.rules.specs.Message.{is_simulated, Message, recording}
 use Rattle.rules.specs.Sheet.{Row, row_bytes, sheet, grants}
-use Rattle.rules.specs.Copy.{granted, listed_bits, Entry, granted_packages, with_entry_of, released, copy_message, copy_messages, copy_bytes, released_of, reported, room_for, answered, copy, delivered}
+use Rattle.rules.specs.Copy.{granted, listed_bits, Entry, granted_packages, with_entry_of, released, copy_message, copy_messages, copy_bytes, released_of, reported, room_for, answered, copy}
 use Rattle.rules.specs.Turns.{Copied, released_by, Within, within-nil, within_both, within_more, Grown, Holds}
 use Rattle.rules.specs.Claims.{InTurn}
 use Rattle.rules.proofs.Outcomes.{step, stepped, good_inj}

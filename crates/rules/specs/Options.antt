@@ -1,7 +1,7 @@
 -- Document 01, 'Options', with document 02, A2: which options keep the rules, how long the option run is, and which number of packages it says.
 use Rattle.std.specs.Prelude.{ℕ, zero, suc, ◌+◌, ◌-◌, ◌<◌, ◌≡◌, Bool, true, false, not, ◌&&◌, ◌||◌, List, [], ◌∷◌, leb, ltb, eqb, length}
 use Rattle.std.proofs.Math.Option.{Option, none, some}
-use Rattle.rules.specs.Outcome.{Outcome, good, refuse, ◌>>◌, ◌>>=◌, OPTION}
+use Rattle.rules.specs.Outcome.{Outcome, good, refuse, ◌>>◌, OPTION}
 use Rattle.rules.specs.Bytes.{at, word}
 use Rattle.rules.specs.Items.{count}
 

@@ -1,6 +1,6 @@
 -- Document 01, 'Packages' and 'Package time': packages with the standard header, the cut of a payload into them, and the pieces that fill a payload.
 use Rattle.std.specs.Prelude.{ℕ, zero, ◌+◌, ◌*◌, ◌≤◌, ◌≡◌, Bool, not, ◌&&◌, List, ◌∷◌, leb, length, take}
-use Rattle.rules.specs.Outcome.{Outcome, good, refuse, ◌>>◌, ◌>>=◌, PACKAGE}
+use Rattle.rules.specs.Outcome.{Outcome, good, refuse, ◌>>◌, PACKAGE}
 use Rattle.rules.specs.Bytes.{at, half, word, put16, put32, pad, padded, part}
 use Rattle.rules.specs.Items.{items}
 

@@ -1,6 +1,6 @@
 -- Kept messages and stretches cover the input with no overlap, and stretches run as long as they can.
 use Prim.Native.Nat.{ℕ, suc, ◌+◌, ◌≤◌, ◌<◌}
-use mathlib.Core.Path.{◌≡◌, refl, sym, ◌∙◌}
+use mathlib.Core.Path.{◌≡◌, subst, refl, sym, ◌∙◌}
 use mathlib.Core.Bool.{Bool, true, false, ◌&&◌}
 use mathlib.Core.List.{List, [], ◌∷◌}
 use native.Mathlib.Nat.{zero-add, add_assoc}
@@ -126,15 +126,16 @@ skipped_last p n o h l a b c = go (eqb (h.start + h.size) p) refl
         let z = eqb-false (h.start + h.size) p e in
         rw (e, skipping) (go_on {e = p + n} a b (omega arith) (go_on {e = p + n} {h = span p n} (lt_of_le-ne c z) l (omega arith) stop))
 
-skipped_more : (p n : ℕ) {o : ℕ} {hs : List Stretch} (h : Stretch) → 1 ≤ n → o ≤ h.start → 1 ≤ h.size → h.start + h.size ≤ p → Ending (suc (h.start + h.size)) p hs → Ending o (p + n) (skipping (h ∷ hs) p n)
+skipped_more : (p n : ℕ) {o q : ℕ} {hs : List Stretch} (h : Stretch) → 1 ≤ n → o ≤ h.start → 1 ≤ h.size → h.start + h.size ≤ p → Ending q p hs → q ≡ suc (h.start + h.size) → Ending o (p + n) (skipping (h ∷ hs) p n)
 unfolding skipping
-skipped_more p n {o} h l a b c stop = skipped_last p n o h l a b c
-skipped_more p n {o} h l a b c (go_on {h = g} d e f r) = go_on {e = p + n} a b (omega arith) (skipped_more p n g l d e f r)
+skipped_more p n {o} h l a b c stop is = skipped_last p n o h l a b c
+skipped_more p n {o} {q} h l a b c (go_on {h = g} {hs = hs} d e f r) is =
+    go_on {e = p + n} a b (omega arith) (subst (λ (x : ℕ). Ending x (p + n) (skipping (g ∷ hs) p n)) is (skipped_more p n {o = q} g l d e f r refl))
 
 pub skipped : (p n : ℕ) {hs : List Stretch} → 1 ≤ n → Ending 0 p hs → Ending 0 (p + n) (skipping hs p n)
 unfolding skipping
 skipped p n l stop = go_on {p = 0} {e = p + n} {h = span p n} (omega arith) l (omega arith) stop
-skipped p n l (go_on {h = h} a b c r) = skipped_more p n h l a b c r
+skipped p n l (go_on {h = h} a b c r) = skipped_more p n h l a b c r refl
 
 ends_with : {p : ℕ} {s : List ℕ} {qs : List Piece} (hs : List Stretch) → Ending 0 p hs → Salvages p s qs → Apart 0 (stretches_from hs qs)
 unfolding stretches_from

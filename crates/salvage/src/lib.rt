@@ -1,5 +1,7 @@
 // What is kept of a damaged recording: every message that passes every check, and a report of the stretches that were skipped.
 // A survey finds both and writes nothing; only then are the messages stored.
+#![tactic(auto)]
+
 ghost use Rattle.std.specs.Prelude.{◌≡◌, [], ◌≤◌, ◌<◌, min, length, drop};
 ghost use Rattle.std.proofs.lemmas.List.Edits.{sets};
 ghost use Rattle.rules.specs.Outcome.{bad};
@@ -13,21 +15,21 @@ use message::{Count, count_packages, front_run, header_in, miscounts};
 use refusal::{Refusal, Why};
 
 // A stretch that was skipped: where it starts, and how many bytes it has.
-#[derive(Drop)]
+#[derive(Clone, Copy)]
 pub struct Stretch {
     pub start: usize,
     pub size: usize,
 }
 
 // How much was written, or why nothing was.
-#[derive(Drop)]
+#[derive(Clone, Copy)]
 pub enum SalvageAnswer {
     Done { bytes: usize, messages: usize },
     Refused(Refusal),
 }
 
 // The answer, and the stretches with their number; stretches behind the last are zero, and all of them where the salvage is refused.
-#[derive(Drop)]
+#[derive(Clone, Copy)]
 pub struct Salvaged {
     pub answer: SalvageAnswer,
     pub stretches: [Stretch; 64],
@@ -107,7 +109,7 @@ fn start_of(count: usize, last: usize, end: usize, at: usize) -> usize
 }
 
 // Where the message at a place ends, if one that passes every check stands there.
-#[derive(Drop)]
+#[derive(Clone, Copy)]
 enum Ends {
     At(usize),
     Nowhere,

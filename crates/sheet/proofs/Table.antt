@@ -1,7 +1,7 @@
 -- A sheet's table, and the near rows of a message: what they have to do with the rules, and what the loops over them keep.
 use Prim.Native.Nat.{ℕ, zero, suc, ◌+◌, ◌-◌, ◌*◌, ◌≤◌, ◌<◌}
 use mathlib.Core.Path.{◌≡◌, refl, sym, ap, ◌∙◌}
-use mathlib.Core.Bool.{Bool, true, false, not, ◌&&◌, ◌||◌, and_true, and-false, or_false, or_assoc}
+use mathlib.Core.Bool.{Bool, true, false, not, ◌&&◌, ◌||◌, and-true, and-false, or-false, or_assoc}
 use mathlib.Core.List.{List, [], ◌∷◌, ◌++◌, append_assoc, append-nil}
 use native.Mathlib.Omega.{arith}
 use lib.Dec.{leb, ltb, eqb}
@@ -18,7 +18,6 @@ use Rattle.rules.specs.Sheet.{start_of, end_of, grants}
 use Rattle.rules.specs.Copy.{granted}
 use Rattle.rules.proofs.Outcomes.{passed, stepped, fronted, good_inj, neither, refused-only}
 use Rattle.rules.proofs.Loops.{sets-sets}
-use Rattle.sheet.specs.declared.Row.{Row}
 use Rattle.sheet.specs.Rows.{row_in, row_at}
 use Rattle.sheet.specs.Table.{one_if, table_of, count_of_rows, laid_out, Keeps, reaches, near_of, within, near_grants}
 use Rattle.sheet.proofs.Reading.{Through, through_start, through_next, through_end, row-there}
@@ -32,8 +31,8 @@ length_table (r ∷ rs) = omega (arith, length_table rs)
 parted : (a b o s x : Bool) (near l : List ℕ) (g : List ℕ → Bool) → g near ≡ x || g l
     → g (elim (a && b && not (eqb (one_if o) 1 && s)) [ true ↦ near | false ↦ l ]) ≡ (a && b && x && not (o && s)) || g l
 parted true true true true x near l g h = ap (λ (y : Bool). y || g l) (sym (and-false x))
-parted true true true false x near l g h = h ∙ ap (λ (y : Bool). y || g l) (sym (and_true x))
-parted true true false s x near l g h = h ∙ ap (λ (y : Bool). y || g l) (sym (and_true x))
+parted true true true false x near l g h = h ∙ ap (λ (y : Bool). y || g l) (sym (and-true x))
+parted true true false s x near l g h = h ∙ ap (λ (y : Bool). y || g l) (sym (and-true x))
 parted true false o s x near l g h = refl
 parted false b o s x near l g h = refl
 
@@ -195,7 +194,7 @@ module _ (p t : ℕ) (near : List ℕ) where
     }
 
     pub ask_end : length near - i < 4 → yes ≡ near_grants p t near
-    ask_end h = sym (inv.is ∙ rw (few_grant p t (drop i near) (omega (arith, length-drop i near))) (or_false yes))
+    ask_end h = sym (inv.is ∙ rw (few_grant p t (drop i near) (omega (arith, length-drop i near))) (or-false yes))
 
   -- a near row alone
   pub ask_one : length near ≡ 4 → within p t (get_or near 0 0) (get_or near 1 0) (get_or near 2 0) (get_or near 3 0) ≡ near_grants p t near

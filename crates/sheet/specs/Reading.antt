@@ -3,7 +3,6 @@ use Rattle.std.specs.Prelude.{ℕ, ◌*◌, ◌%◌, ◌≡◌, Bool, not, ◌||
 use Rattle.rules.specs.Outcome.{Outcome, good, bad, ROW}
 use Rattle.rules.specs.Sheet as rules
 use Rattle.refusal.specs.Numbers.{refused}
-use Rattle.sheet.specs.declared.Row.{Row}
 use Rattle.sheet.specs.declared.RowRead.{RowRead}
 use Rattle.sheet.specs.declared.RowRead.TheVariants as Read
 use Rattle.sheet.specs.declared.SheetAnswer.{SheetAnswer}

@@ -1,7 +1,9 @@
-// Order sheets: a row, when it grants a package, and whether some row does. The rows are lent as a slice of structs, which the borrow
-// checker does not cover: some_row_grants, in_first and in_few are proved by hand. Whoever calls in_sheet passes an array by value, and is covered.
+// Order sheets: a row, when it grants a package, and whether some row does. The rows are searched as a lent slice of structs; in_sheet takes
+// an array by value, and lends its first rows to the search.
 // Whoever asks for many packages reads the sheet into a table of plain numbers, which is lent and not copied; of those the rows that can grant
 // something in a message are its near rows, and they alone are asked for its packages.
+#![tactic(auto)]
+
 ghost use Rattle.std.specs.Prelude.{◌≡◌, ◌+◌, ◌≤◌, ◌<◌, [], ◌∷◌, length, get_or, take};
 ghost use Rattle.std.proofs.lemmas.List.Edits.{sets};
 ghost use Rattle.rules.specs.Sheet.{row_fits, grants, sheet, sheet_rows};
@@ -16,13 +18,13 @@ use message::{Header, Mdid, Pdid};
 use refusal::{Refusal, Why};
 use wire::word_at;
 
-#[derive(Drop)]
+#[derive(Clone, Copy)]
 pub struct Time {
     pub seconds: u32,
     pub nanos: u32,
 }
 
-#[derive(Drop)]
+#[derive(Clone, Copy)]
 pub struct Row {
     pub first_mdid: Mdid,
     pub last_mdid: Mdid,
@@ -34,7 +36,7 @@ pub struct Row {
 }
 
 // What a grant looks at of a message beside its time.
-#[derive(Drop)]
+#[derive(Clone, Copy)]
 pub struct Source {
     pub mdid: Mdid,
     pub simulated: bool,
@@ -104,7 +106,7 @@ fn fits(row: Row) -> bool
     nanos_of(start) < nanos_of(end)
 }
 
-#[derive(Drop)]
+#[derive(Clone, Copy)]
 enum RowRead {
     Good(Row),
     Bad,
@@ -145,14 +147,14 @@ fn no_row() -> Row
     }
 }
 
-#[derive(Drop)]
+#[derive(Clone, Copy)]
 pub enum SheetAnswer {
     Good,
     Refused(Refusal),
 }
 
 // The rows and their number; rows behind the last are all zero, and all rows of a sheet that is refused.
-#[derive(Drop)]
+#[derive(Clone, Copy)]
 pub struct SheetRead {
     pub answer: SheetAnswer,
     pub rows: [Row; 32],
@@ -340,7 +342,7 @@ fn put_rows(s: &[u8], table: &mut [u64])
     }
 }
 
-#[derive(Drop)]
+#[derive(Clone, Copy)]
 pub enum TableAnswer {
     Rows(usize),
     Refused(Refusal),

@@ -9,7 +9,6 @@ use lib.ListN.{length, get_or, take, set, length-map}
 use lib.Seq.{sets, get_or-set_other}
 use Rattle.rules.specs.Outcome.{Outcome, good, bad}
 use Rattle.rules.specs.Items.{count}
-use Rattle.rules.specs.Message.{message}
 use Rattle.rules.specs.Buffer.{fitted}
 use Rattle.rules.specs.Sheet.{Row, sheet}
 use Rattle.rules.specs.Copy.{Entry, released}

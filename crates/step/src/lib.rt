@@ -1,5 +1,7 @@
 // Long recordings by quota: a recording of any length, copied step by step, a quota of messages at a time, numbered on from a state. A step is
 // `numbered::copy` with the 64 ids that a state holds, and measured alone `numbered::measure`.
+#![tactic(auto)]
+
 ghost use Rattle.std.specs.Prelude.{◌≡◌};
 ghost use Rattle.step.specs.Step.{step, measured_step};
 ghost use Rattle.step.specs.Told.{state_in, told, told_measured};
@@ -8,14 +10,14 @@ use numbered::{Answer, copy};
 
 // The running numbers: the first `held` of ids are message ids, each once, and beside each stands the sequence number that its next message gets.
 // What stands in the other places does not count, and comes back as it was handed in.
-#[derive(Drop)]
+#[derive(Clone, Copy)]
 pub struct State {
     pub ids: [u32; 64],
     pub next: [u32; 64],
     pub held: usize,
 }
 
-#[derive(Drop)]
+#[derive(Clone, Copy)]
 pub struct Stepped {
     pub answer: Answer,
     pub state: State,

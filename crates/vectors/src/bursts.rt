@@ -4,31 +4,31 @@ ghost use Rattle.std.specs.Prelude.{◌≤◌};
 use burst::{Opened, Randomized};
 
 // Number, place and codeblocks.
-fn opened(buf: &mut [u8]) {
+fn opened(rt: &HostRuntime, buf: &mut [u8]) {
     match burst::open_burst(buf) {
         Opened::Done { blocks } => {
-            crate::two_zeros();
-            crate::number(blocks);
+            crate::two_zeros(rt);
+            crate::number(rt, blocks);
         }
         Opened::Refused(x) => {
-            crate::refusal(x);
-            crate::number(0);
+            crate::refusal(rt, x);
+            crate::number(rt, 0);
         }
     }
-    crate::end();
+    crate::end(rt);
 }
 
 // Number and place.
-fn randomized(buf: &mut [u8]) {
+fn randomized(rt: &HostRuntime, buf: &mut [u8]) {
     match burst::randomize(buf) {
         Randomized::Done => {
-            crate::two_zeros();
+            crate::two_zeros(rt);
         }
         Randomized::Refused(x) => {
-            crate::refusal(x);
+            crate::refusal(rt, x);
         }
     }
-    crate::end();
+    crate::end(rt);
 }
 
 // 0 for equal bytes, and 1 for others.
@@ -39,13 +39,13 @@ fn differ(a: u8, b: u8) -> usize
 }
 
 // How many bytes of s are not v.
-fn others(s: &[u8], v: u8) {
+fn others(rt: &HostRuntime, s: &[u8], v: u8) {
     let mut n = 0;
     for i in 0..s.len() {
         n += differ(s[i], v);
     }
-    crate::number(n);
-    crate::end();
+    crate::number(rt, n);
+    crate::end(rt);
 }
 
 // A marker and two codeblocks of zero bytes.
@@ -55,51 +55,51 @@ fn zero_burst() -> [u8; 1544] {
     burst
 }
 
-fn show_part(burst: [u8; 1544], from: usize, to: usize)
+fn show_part(rt: &HostRuntime, burst: [u8; 1544], from: usize, to: usize)
     requires { (from ≤ to) × (to ≤ 1544) }
 {
-    crate::show(&burst[from..to]);
+    crate::show(rt, &burst[from..to]);
 }
 
 // Zero bytes open to the sequence, which runs on: bytes 0 to 4, 255 and 768 of P12. The marker stays.
 // Opened again, the codeblocks are zero again.
-fn twice() {
+fn twice(rt: &HostRuntime) {
     let mut burst = zero_burst();
-    opened(&mut burst);
-    show_part(burst, 0, 13);
-    show_part(burst, 263, 264);
-    show_part(burst, 776, 777);
-    opened(&mut burst);
-    others(&burst[8..], 0);
+    opened(rt, &mut burst);
+    show_part(rt, burst, 0, 13);
+    show_part(rt, burst, 263, 264);
+    show_part(rt, burst, 776, 777);
+    opened(rt, &mut burst);
+    others(rt, &burst[8..], 0);
 }
 
 // The first `count` bytes of a marker and two codeblocks.
-fn cut(count: usize)
+fn cut(rt: &HostRuntime, count: usize)
     requires { count ≤ 1544 }
 {
     let mut burst = zero_burst();
-    opened(&mut burst[0..count]);
+    opened(rt, &mut burst[0..count]);
 }
 
 // 65,537 bytes: LARGE, and no byte has changed.
-fn large() {
+fn large(rt: &HostRuntime) {
     let mut buf = crate::long();
-    randomized(&mut buf);
-    others(&buf, 0x20);
+    randomized(rt, &mut buf);
+    others(rt, &buf, 0x20);
 }
 
 // Five zero bytes are randomized to the sequence's first.
-fn five() {
+fn five(rt: &HostRuntime) {
     let mut buf = [0u8; 5];
-    randomized(&mut buf);
-    crate::show(&buf);
+    randomized(rt, &mut buf);
+    crate::show(rt, &buf);
 }
 
-pub fn bursts() {
-    twice();
+pub fn bursts(rt: &HostRuntime) {
+    twice(rt);
     // A marker alone: BLOCKS at 8. Seven bytes of it: MARKER at 0.
-    cut(8);
-    cut(7);
-    large();
-    five();
+    cut(rt, 8);
+    cut(rt, 7);
+    large(rt);
+    five(rt);
 }

@@ -2,25 +2,25 @@
 ghost use Rattle.std.specs.Prelude.{◌≤◌};
 
 // The answer, and the buffer.
-fn cleaned(s: &[u8], out: &mut [u8]) {
-    crate::writing::answer(compose::clean(s, out));
-    crate::show(out);
+fn cleaned(rt: &HostRuntime, s: &[u8], out: &mut [u8]) {
+    crate::writing::answer(rt, compose::clean(s, out));
+    crate::show(rt, out);
 }
 
 // M, into a buffer of just its size: padding and reserved byte are zero. The clean form again: nothing changes.
-fn twice() {
+fn twice(rt: &HostRuntime) {
     let m = crate::message_m();
     let mut once = [0xEEu8; 56];
-    cleaned(&m, &mut once);
+    cleaned(rt, &m, &mut once);
     let mut again = [0xEEu8; 60];
-    cleaned(&once, &mut again);
+    cleaned(rt, &once, &mut again);
 }
 
 // M with option bytes behind an 0x00, which say so many packages: two words, the last two bytes zero.
-fn with_options(packages: u8) {
+fn with_options(rt: &HostRuntime, packages: u8) {
     let n = crate::saying(packages);
     let mut out = [0xEEu8; 64];
-    cleaned(&n, &mut out);
+    cleaned(rt, &n, &mut out);
 }
 
 // M with other bytes behind it.
@@ -32,23 +32,23 @@ fn followed_m() -> [u8; 65537] {
 }
 
 // The first `count` bytes of M and what follows it, into a buffer of `room` bytes.
-fn part(count: usize, room: usize)
+fn part(rt: &HostRuntime, count: usize, room: usize)
     requires { (count ≤ 65537) × (room ≤ 56) }
 {
     let s = followed_m();
     let mut out = [0xEEu8; 56];
-    cleaned(&s[0..count], &mut out[0..room]);
+    cleaned(rt, &s[0..count], &mut out[0..room]);
 }
 
-pub fn cleaning() {
-    twice();
+pub fn cleaning(rt: &HostRuntime) {
+    twice(rt);
     // One byte too few: ROOM, 56, and the buffer is as it was.
-    part(56, 55);
-    with_options(2);
+    part(rt, 56, 55);
+    with_options(rt, 2);
     // P7's message says one package and has two: COUNT at 0, and the buffer is as it was.
-    with_options(1);
+    with_options(rt, 1);
     // 23 bytes: SHORT at 0. Behind M, what follows is ignored, up to 65,536 bytes.
-    part(23, 4);
-    part(65537, 4);
-    part(65536, 56);
+    part(rt, 23, 4);
+    part(rt, 65537, 4);
+    part(rt, 65536, 56);
 }

@@ -4,164 +4,164 @@ ghost use Rattle.std.specs.Prelude.{◌≤◌};
 use message::{Checked, Count, Header, HeaderRead, MessageRead};
 
 // W, flags, message id, sequence number, length, seconds and nanoseconds.
-fn fields(h: Header) {
-    crate::four(h.words as u32, h.flags as u32, h.id.0, h.sequence);
-    crate::word(h.length);
-    crate::word(h.seconds);
-    crate::word(h.nanos);
+fn fields(rt: &HostRuntime, h: Header) {
+    crate::four(rt, h.words as u32, h.flags as u32, h.id.0, h.sequence);
+    crate::word(rt, h.length);
+    crate::word(rt, h.seconds);
+    crate::word(rt, h.nanos);
 }
 
 // Number, place, the header's fields, and the option run.
-fn header(s: &[u8]) {
+fn header(rt: &HostRuntime, s: &[u8]) {
     match message::read_header(s) {
         HeaderRead::Header(h) => {
-            crate::two_zeros();
-            fields(h);
+            crate::two_zeros(rt);
+            fields(rt, h);
         }
         HeaderRead::Refused(x) => {
-            crate::refusal(x);
+            crate::refusal(rt, x);
         }
     }
-    crate::show(message::option_run(s));
+    crate::show(rt, message::option_run(s));
 }
 
 // Number, place, messages and packages.
-fn checked(s: &[u8]) {
+fn checked(rt: &HostRuntime, s: &[u8]) {
     match message::check(s) {
         Checked::Passed { messages, packages } => {
-            crate::two_zeros();
-            crate::number(messages);
-            crate::number(packages);
+            crate::two_zeros(rt);
+            crate::number(rt, messages);
+            crate::number(rt, packages);
         }
         Checked::Refused(x) => {
-            crate::refusal(x);
-            crate::two_zeros();
+            crate::refusal(rt, x);
+            crate::two_zeros(rt);
         }
     }
-    crate::end();
+    crate::end(rt);
 }
 
 // Number, place, the header's fields, where the payload and the next message begin, and how many packages there are, of the message at a
 // place of M.
-fn message_at(at: usize) {
+fn message_at(rt: &HostRuntime, at: usize) {
     let m = crate::message_m();
     match message::message_at(&m, at) {
         MessageRead::Message(k) => {
-            crate::two_zeros();
+            crate::two_zeros(rt);
             let h = k.header;
-            fields(h);
-            crate::number(k.payload);
-            crate::number(k.next);
-            crate::number(k.packages);
+            fields(rt, h);
+            crate::number(rt, k.payload);
+            crate::number(rt, k.next);
+            crate::number(rt, k.packages);
         }
         MessageRead::Refused(x) => {
-            crate::refusal(x);
+            crate::refusal(rt, x);
         }
     }
-    crate::end();
+    crate::end(rt);
 }
 
 // Number, place and the number told.
-fn count(c: Count) {
+fn count(rt: &HostRuntime, c: Count) {
     match c {
         Count::Number(n) => {
-            crate::two_zeros();
-            crate::number(n);
+            crate::two_zeros(rt);
+            crate::number(rt, n);
         }
         Count::Refused(x) => {
-            crate::refusal(x);
-            crate::number(0);
+            crate::refusal(rt, x);
+            crate::number(rt, 0);
         }
     }
-    crate::end();
+    crate::end(rt);
 }
 
 // A bare option run, and a bare run of packages, of so many bytes 0x20.
-fn bare_runs(bytes: usize)
+fn bare_runs(rt: &HostRuntime, bytes: usize)
     requires { bytes ≤ 65537 }
 {
     let s = crate::long();
-    count(message::option_run_length(&s[0..bytes]));
-    count(message::count_packages(&s[0..bytes]));
+    count(rt, message::option_run_length(&s[0..bytes]));
+    count(rt, message::count_packages(&s[0..bytes]));
 }
 
 // The header of M's first so many bytes.
-fn header_of(count: usize)
+fn header_of(rt: &HostRuntime, count: usize)
     requires { count ≤ 56 }
 {
     let m = crate::message_m();
-    header(&m[0..count]);
+    header(rt, &m[0..count]);
 }
 
 // The header of M with the option bytes of P7, and this length byte in them.
-fn header_with_options(length: u8) {
+fn header_with_options(rt: &HostRuntime, length: u8) {
     let mut n = crate::message_n();
     n[25] = length;
-    header(&n);
+    header(rt, &n);
 }
 
 // M's first so many bytes.
-fn cut(count: usize)
+fn cut(rt: &HostRuntime, count: usize)
     requires { count ≤ 56 }
 {
     let m = crate::message_m();
-    checked(&m[0..count]);
+    checked(rt, &m[0..count]);
 }
 
 // M with the option bytes of P7, which say so many packages.
-fn saying(packages: u8) {
+fn saying(rt: &HostRuntime, packages: u8) {
     let n = crate::saying(packages);
-    checked(&n);
+    checked(rt, &n);
 }
 
 // M with this word at this place.
-fn with(at: usize, word: u32) {
+fn with(rt: &HostRuntime, at: usize, word: u32) {
     let m = crate::changed(at, word);
-    checked(&m);
+    checked(rt, &m);
 }
 
 // P4: M with the first byte 11 and length 18 (hex).
-fn too_short_for_options() {
+fn too_short_for_options(rt: &HostRuntime) {
     let mut m = crate::changed(12, 0x18);
     m[0] = 0x11;
-    checked(&m);
+    checked(rt, &m);
 }
 
-pub fn reading() {
-    header_of(56);
+pub fn reading(rt: &HostRuntime) {
+    header_of(rt, 56);
     // P7: the option run is the first 6 bytes; with 05 for 06, OPTION at 24.
-    header_with_options(0x06);
-    header_with_options(0x05);
+    header_with_options(rt, 0x06);
+    header_with_options(rt, 0x05);
     // A header alone is read with CUT as well.
-    header_of(24);
+    header_of(rt, 24);
     // P2, an empty recording, and M.
-    cut(23);
-    cut(0);
-    cut(56);
+    cut(rt, 23);
+    cut(rt, 0);
+    cut(rt, 56);
     // P3, TYPE, and P4.
-    with(0, 0x20000080);
-    with(0, 0x10010080);
-    too_short_for_options();
+    with(rt, 0, 0x20000080);
+    with(rt, 0, 0x10010080);
+    too_short_for_options(rt);
     // P5, and P6 with 3B9ACA00 and 3B9AC9FF nanoseconds.
-    with(12, 0x3C);
-    with(20, 0x3B9ACA00);
-    with(20, 0x3B9AC9FF);
+    with(rt, 12, 0x3C);
+    with(rt, 20, 0x3B9ACA00);
+    with(rt, 20, 0x3B9AC9FF);
     // P8: the first L is 11, 33, 17 and 16.
-    with(28, 0x000B0000);
-    with(28, 0x00210000);
-    with(28, 0x00110000);
-    with(28, 0x00100000);
+    with(rt, 28, 0x000B0000);
+    with(rt, 28, 0x00210000);
+    with(rt, 28, 0x00110000);
+    with(rt, 28, 0x00100000);
     // Flags 0090 and 0000: FRAGMENT and STANDARD.
-    with(0, 0x10000090);
-    with(0, 0x10000000);
+    with(rt, 0, 0x10000090);
+    with(rt, 0, 0x10000000);
     // M with option 0x87: it says two packages, and one.
-    saying(2);
-    saying(1);
+    saying(rt, 2);
+    saying(rt, 1);
     // M at its place; behind its end, and further behind, SHORT.
-    message_at(0);
-    message_at(56);
-    message_at(57);
+    message_at(rt, 0);
+    message_at(rt, 56);
+    message_at(rt, 57);
     // Each byte is an option; as a package's L they are 8,224, of which seven fit into 65,536 bytes. One byte more is LARGE.
-    bare_runs(65536);
-    bare_runs(65537);
+    bare_runs(rt, 65536);
+    bare_runs(rt, 65537);
 }

@@ -11,33 +11,45 @@ fn row_r() -> [u8; 33] {
         \x00\x00\x00\x64\x00\x00\x00\x00\x00\x00\x01\x94\x00\x00\x00\x00\x00"
 }
 
-fn row(r: Row) {
-    crate::four(r.first_mdid.0, r.last_mdid.0, r.first_pdid.0, r.last_pdid.0);
-    crate::four(r.start.seconds, r.start.nanos, r.end.seconds, r.end.nanos);
-    crate::number(r.acquired_only as usize);
+fn row(rt: &HostRuntime, r: Row) {
+    crate::four(
+        rt,
+        r.first_mdid.0,
+        r.last_mdid.0,
+        r.first_pdid.0,
+        r.last_pdid.0,
+    );
+    crate::four(
+        rt,
+        r.start.seconds,
+        r.start.nanos,
+        r.end.seconds,
+        r.end.nanos,
+    );
+    crate::number(rt, r.acquired_only as usize);
 }
 
 // Number and place.
-fn told(a: SheetAnswer) {
+fn told(rt: &HostRuntime, a: SheetAnswer) {
     match a {
         SheetAnswer::Good => {
-            crate::two_zeros();
+            crate::two_zeros(rt);
         }
         SheetAnswer::Refused(x) => {
-            crate::refusal(x);
+            crate::refusal(rt, x);
         }
     }
 }
 
 // Number, place, how many rows, and the first row.
-fn sheet(s: &[u8]) {
+fn sheet(rt: &HostRuntime, s: &[u8]) {
     let read = sheet::read_sheet(s);
     let answer = read.answer;
-    told(answer);
-    crate::number(read.count);
+    told(rt, answer);
+    crate::number(rt, read.count);
     let rows = read.rows;
-    row(rows[0]);
-    crate::end();
+    row(rt, rows[0]);
+    crate::end(rt);
 }
 
 // R with this last byte, and the byte behind it.
@@ -48,15 +60,15 @@ fn row_with(last: u8) -> [u8; 33] {
 }
 
 // The first `count` bytes of R with this last byte and the byte behind it.
-fn sheet_r(last: u8, count: usize)
+fn sheet_r(rt: &HostRuntime, last: u8, count: usize)
     requires { count ≤ 33 }
 {
     let r = row_with(last);
-    sheet(&r[0..count]);
+    sheet(rt, &r[0..count]);
 }
 
 // Two rows, R and R with this last byte: number, place and how many rows; and the second row and the last.
-fn two_rows(last: u8) {
+fn two_rows(rt: &HostRuntime, last: u8) {
     let mut two = [0u8; 64];
     let r = row_r();
     wire::put_part(&mut two, 0, &r, 0, 32);
@@ -64,113 +76,113 @@ fn two_rows(last: u8) {
     wire::put_byte(&mut two, 63, last);
     let read = sheet::read_sheet(&two);
     let answer = read.answer;
-    told(answer);
-    crate::number(read.count);
+    told(rt, answer);
+    crate::number(rt, read.count);
     let rows = read.rows;
-    row(rows[1]);
-    row(rows[31]);
-    crate::end();
+    row(rt, rows[1]);
+    row(rt, rows[31]);
+    crate::end(rt);
 }
 
 // Whether one of the first `count` rows of the sheet of R with this last byte grants package 1 of a message, at a time in nanoseconds.
-fn granted_in(last: u8, count: usize, m: Source, time: u64) {
+fn granted_in(rt: &HostRuntime, last: u8, count: usize, m: Source, time: u64) {
     let r = row_with(last);
     let read = sheet::read_sheet(&r[0..32]);
     let rows = read.rows;
-    crate::number(sheet::in_sheet(rows, count, m, Pdid(1), time) as usize);
-    crate::end();
+    crate::number(rt, sheet::in_sheet(rows, count, m, Pdid(1), time) as usize);
+    crate::end(rt);
 }
 
 // The same under R, of a message that is not simulated.
-fn granted(count: usize, message: u32, time: u64) {
+fn granted(rt: &HostRuntime, count: usize, message: u32, time: u64) {
     let m = Source {
         mdid: Mdid(message),
         simulated: false,
     };
-    granted_in(0x00, count, m, time);
+    granted_in(rt, 0x00, count, m, time);
 }
 
 // And under R with this last byte, of message 7 at 100 s, simulated or not.
-fn granted_by(last: u8, simulated: bool) {
+fn granted_by(rt: &HostRuntime, last: u8, simulated: bool) {
     let m = Source {
         mdid: Mdid(7),
         simulated,
     };
-    granted_in(last, 1, m, 100_000_000_000);
+    granted_in(rt, last, 1, m, 100_000_000_000);
 }
 
 // Number, place, bytes, messages and packages.
-fn answer(a: Answer) {
+fn answer(rt: &HostRuntime, a: Answer) {
     match a {
         Answer::Totals(t) => {
-            crate::two_zeros();
-            crate::number(t.bytes);
-            crate::number(t.messages);
-            crate::number(t.packages);
+            crate::two_zeros(rt);
+            crate::number(rt, t.bytes);
+            crate::number(rt, t.messages);
+            crate::number(rt, t.packages);
         }
         Answer::Refused(x) => {
-            crate::refusal(x);
-            crate::number(0);
-            crate::two_zeros();
+            crate::refusal(rt, x);
+            crate::number(rt, 0);
+            crate::two_zeros(rt);
         }
     }
 }
 
 // What is measured; and what is written, with the buffer.
-fn copied(recording: &[u8], sheet: &[u8], out: &mut [u8]) {
-    answer(release::measure(recording, sheet));
-    crate::end();
-    answer(release::write(recording, sheet, out));
-    crate::show(out);
+fn copied(rt: &HostRuntime, recording: &[u8], sheet: &[u8], out: &mut [u8]) {
+    answer(rt, release::measure(recording, sheet));
+    crate::end(rt);
+    answer(rt, release::write(recording, sheet, out));
+    crate::show(rt, out);
 }
 
 // The copy of M's first `count` bytes under `rows` bytes of R and the byte behind it, in a buffer of `room` bytes.
-fn under_r(count: usize, rows: usize, room: usize)
+fn under_r(rt: &HostRuntime, count: usize, rows: usize, room: usize)
     requires { (count ≤ 56) × (rows ≤ 33) × (room ≤ 44) }
 {
     let m = crate::message_m();
     let r = row_r();
     let mut out = [0xEEu8; 44];
-    copied(&m[0..count], &r[0..rows], &mut out[0..room]);
+    copied(rt, &m[0..count], &r[0..rows], &mut out[0..room]);
 }
 
 // The copy of M with flags 88, which is simulated, under R with this last byte.
-fn simulated_under(last: u8) {
+fn simulated_under(rt: &HostRuntime, last: u8) {
     let m = crate::changed(0, 0x10000088);
     let r = row_with(last);
     let mut out = [0xEEu8; 44];
-    copied(&m, &r[0..32], &mut out);
+    copied(rt, &m, &r[0..32], &mut out);
 }
 
-pub fn releasing() {
+pub fn releasing(rt: &HostRuntime) {
     // P9, a sheet of 33 bytes, R for acquired data only, and a spare bit that is not zero.
-    sheet_r(0x00, 32);
-    sheet_r(0x00, 33);
-    sheet_r(0x01, 32);
-    sheet_r(0x02, 32);
+    sheet_r(rt, 0x00, 32);
+    sheet_r(rt, 0x00, 33);
+    sheet_r(rt, 0x01, 32);
+    sheet_r(rt, 0x02, 32);
     // Two rows are read, the second for acquired data only; where the second is refused, all rows are zero.
-    two_rows(0x01);
-    two_rows(0x02);
+    two_rows(rt, 0x01);
+    two_rows(rt, 0x02);
     // R's sheet has one row: none of no rows grants, and above 32 all rows are asked.
-    granted(0, 7, 100_000_000_000);
-    granted(1, 7, 100_000_000_000);
-    granted(33, 7, 100_000_000_000);
-    granted(33, 8, 100_000_000_000);
+    granted(rt, 0, 7, 100_000_000_000);
+    granted(rt, 1, 7, 100_000_000_000);
+    granted(rt, 33, 7, 100_000_000_000);
+    granted(rt, 33, 8, 100_000_000_000);
     // Its window starts at 100 s and ends at 101 s, which is left out.
-    granted(1, 7, 99_999_999_999);
-    granted(1, 7, 100_999_999_999);
-    granted(1, 7, 101_000_000_000);
+    granted(rt, 1, 7, 99_999_999_999);
+    granted(rt, 1, 7, 100_999_999_999);
+    granted(rt, 1, 7, 101_000_000_000);
     // Simulated messages are granted in by R, and not where it is for acquired data only.
-    granted_by(0x00, true);
-    granted_by(0x01, true);
-    granted_by(0x01, false);
+    granted_by(rt, 0x00, true);
+    granted_by(rt, 0x01, true);
+    granted_by(rt, 0x01, false);
     // P1 and P10, measured and written; a buffer of 44 bytes keeps its last four, and one of 39 is ROOM, 40, for writing alone.
-    under_r(0, 32, 44);
-    under_r(56, 32, 44);
-    under_r(56, 32, 39);
+    under_r(rt, 0, 32, 44);
+    under_r(rt, 56, 32, 44);
+    under_r(rt, 56, 32, 39);
     // M, simulated, under R, and under R for acquired data only.
-    simulated_under(0x00);
-    simulated_under(0x01);
+    simulated_under(rt, 0x00);
+    simulated_under(rt, 0x01);
     // A bad sheet is found before a bad recording.
-    under_r(1, 33, 39);
+    under_r(rt, 1, 33, 39);
 }

@@ -2,44 +2,45 @@
 use message::{Package, PackageRead};
 
 // Number, place, whether a package is shown, its id, L, status and delta.
-fn package(p: Package) {
-    crate::two_zeros();
-    crate::number(1);
-    crate::four(p.id.0, p.length as u32, p.status as u32, p.delta);
+fn package(rt: &HostRuntime, p: Package) {
+    crate::two_zeros(rt);
+    crate::number(rt, 1);
+    crate::four(rt, p.id.0, p.length as u32, p.status as u32, p.delta);
 }
 
 // No package: all its numbers are zero.
-fn none() {
-    crate::number(0);
-    crate::four(0, 0, 0, 0);
+fn none(rt: &HostRuntime) {
+    crate::number(rt, 0);
+    crate::four(rt, 0, 0, 0, 0);
 }
 
 // What a step found: the package, or none.
-pub fn found(step: PackageRead) {
+pub fn found(rt: &HostRuntime, step: PackageRead) {
     match step {
         PackageRead::Package(p) => {
-            package(p);
+            package(rt, p);
         }
         PackageRead::End => {
-            crate::two_zeros();
-            none();
+            crate::two_zeros(rt);
+            none(rt);
         }
         PackageRead::Refused(x) => {
-            crate::refusal(x);
-            none();
+            crate::refusal(rt, x);
+            none(rt);
         }
     }
 }
 
 // What a step found, the walk's next place, and the data shown.
-pub fn shown(step: PackageRead, next: usize, bytes: &[u8]) {
-    found(step);
-    crate::number(next);
-    crate::show(bytes);
+pub fn shown(rt: &HostRuntime, step: PackageRead, next: usize, bytes: &[u8]) {
+    found(rt, step);
+    crate::number(rt, next);
+    crate::show(rt, bytes);
 }
 
-fn step(run: &[u8], at: usize) {
+fn step(rt: &HostRuntime, run: &[u8], at: usize) {
     shown(
+        rt,
         walk::step_at(run, at),
         walk::next_at(run, at),
         walk::data_at(run, at),
@@ -47,46 +48,46 @@ fn step(run: &[u8], at: usize) {
 }
 
 // The same with the length of the data in their place.
-fn long_step(run: &[u8], at: usize) {
-    found(walk::step_at(run, at));
-    crate::number(walk::next_at(run, at));
+fn long_step(rt: &HostRuntime, run: &[u8], at: usize) {
+    found(rt, walk::step_at(run, at));
+    crate::number(rt, walk::next_at(run, at));
     let data = walk::data_at(run, at);
-    crate::number(data.len());
-    crate::end();
+    crate::number(rt, data.len());
+    crate::end(rt);
 }
 
 // A step of M's payload, with this word for the one with the first L.
-fn payload(length: u32, at: usize) {
+fn payload(rt: &HostRuntime, length: u32, at: usize) {
     let m = crate::changed(28, length);
-    step(&m[24..56], at);
+    step(rt, &m[24..56], at);
 }
 
 // A run of exactly 65,536 bytes, with this word for the one with L, and zero otherwise.
-fn whole_run(length: u32, at: usize) {
+fn whole_run(rt: &HostRuntime, length: u32, at: usize) {
     let mut run = [0u8; 65536];
     wire::put_word(&mut run, 4, length);
-    long_step(&run, at);
+    long_step(rt, &run, at);
 }
 
 // LARGE comes before the end.
-fn large() {
+fn large(rt: &HostRuntime) {
     let run = crate::long();
-    step(&run, 70000);
+    step(rt, &run, 70000);
 }
 
-pub fn walking() {
+pub fn walking(rt: &HostRuntime) {
     // M's two packages without their padding, and then the end.
-    payload(0x000D0000, 0);
-    payload(0x000D0000, 16);
-    payload(0x000D0000, 32);
+    payload(rt, 0x000D0000, 0);
+    payload(rt, 0x000D0000, 16);
+    payload(rt, 0x000D0000, 32);
     // With the first L = 17 the second package would begin at 20. PACKAGE there, and the walk stays.
-    payload(0x00110000, 20);
+    payload(rt, 0x00110000, 20);
     // L = 65,535 rounds up to the whole run. Behind it is the end, wherever.
-    whole_run(0xFFFF0000, 0);
-    whole_run(0xFFFF0000, 65536);
-    whole_run(0xFFFF0000, 70000);
+    whole_run(rt, 0xFFFF0000, 0);
+    whole_run(rt, 0xFFFF0000, 65536);
+    whole_run(rt, 0xFFFF0000, 70000);
     // With L = 65,524 the second package would begin at 65,524, where 12 bytes are left, and its L is 0.
-    whole_run(0xFFF40000, 0);
-    whole_run(0xFFF40000, 65524);
-    large();
+    whole_run(rt, 0xFFF40000, 0);
+    whole_run(rt, 0xFFF40000, 65524);
+    large(rt);
 }

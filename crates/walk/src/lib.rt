@@ -1,6 +1,7 @@
-// A package walk: a struct that holds the run it walks and its place, and thin functions over it. The borrow checker covers no
-// function over such a struct, so new, next and first are proved by hand. step_at, data_at and next_at, which have the work, take
-// a plain slice and a place, and are covered.
+// A package walk: a struct that holds the run it walks and its place, and thin functions over it. step_at, data_at and next_at, which
+// have the work, take a plain slice and a place.
+#![tactic(auto)]
+
 ghost use Rattle.std.specs.Prelude.{◌≡◌};
 ghost use Rattle.rules.specs.Walk.{package_at, data_at, start_at, next_at};
 ghost use Rattle.message.specs.Answers.{told_package, PartOf};
@@ -42,14 +43,14 @@ pub fn next_at(s: &[u8], at: usize) -> usize
 }
 
 // A walk carries the run that it walks and its place.
-#[derive(Drop)]
+#[derive(Clone, Copy)]
 pub struct Walk<'a> {
     pub run: &'a [u8],
     pub at: usize,
 }
 
 // What a step hands back: the walk, moved or as it was, what the step found, and the data that it shows, as part of the run.
-#[derive(Drop)]
+#[derive(Clone, Copy)]
 pub struct Shown<'a> {
     pub walk: Walk<'a>,
     pub step: PackageRead,
@@ -62,7 +63,7 @@ pub fn new<'a>(run: &'a [u8]) -> Walk<'a>
     Walk { run, at: 0 }
 }
 
-// The struct is taken apart, the covered functions are called on the slice and the place, and the answer is put together.
+// The struct is taken apart, the functions that have the work are called on the slice and the place, and the answer is put together.
 pub fn next<'a>(w: Walk<'a>) -> Shown<'a>
     ensures { spec.Shows w.entry result }
 {
@@ -75,7 +76,7 @@ pub fn next<'a>(w: Walk<'a>) -> Shown<'a>
     Shown { walk, step, bytes }
 }
 
-// What the first step of a walk finds: its parameter is a plain slice, so the borrow checker covers whoever calls it.
+// What the first step of a walk finds, of a plain slice.
 pub fn first(run: &[u8]) -> PackageRead
     ensures { told_package result ≡ package_at run.now 0 }
 {

@@ -1,5 +1,7 @@
 // A recording of any length, read window by window: what of a window is handed over. A window has at most 65,536 bytes of the recording, from the start
 // of a message on; the message that its end cuts is kept back, and begins the next window.
+#![tactic(auto)]
+
 ghost use Rattle.std.specs.Prelude.{◌≡◌, ◌≤◌, length};
 ghost use Rattle.refusal.specs.Numbers.{number_of};
 ghost use Rattle.windows.specs.Window.{is_cut, ending_before, handed_over, whole_bytes};
@@ -9,7 +11,7 @@ use message::{Checked, check};
 use refusal::{Refusal, Why, number_of};
 
 // The window's first so many bytes are handed over; or the recording is refused.
-#[derive(Drop)]
+#[derive(Clone, Copy)]
 pub enum Handed {
     Bytes(usize),
     Refused(Refusal),
