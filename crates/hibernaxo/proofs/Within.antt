@@ -1,16 +1,16 @@
 -- Fields within their bounds: looked at one by one, and each of them where all are.
 use Prim.Native.Nat.{ℕ, zero, suc, ◌+◌, ◌-◌, ◌^◌, ◌≤◌, ◌<◌}
-use mathlib.Core.Path.{◌≡◌, subst}
+use mathlib.Core.Path.{◌≡◌, sym, subst, ◌∙◌}
 use mathlib.Core.Logic.{⊎_elim}
-use mathlib.Core.Bool.{true, false}
+use mathlib.Core.Bool.{Bool, true, false}
 use mathlib.Core.List.{List}
-use native.Mathlib.Nat.{eq-or-lt_of_le}
+use native.Mathlib.Nat.{eq-or-lt_of_le, le_refl}
 use mir.Syntax.{Width}
 use mir.Val.{Fits, bits}
 use borrow.Author.Rules.{Fits-under}
 use native.Mathlib.Omega.{arith}
 use borrow.Author.Tests.{le-leb, lt-leb, leb-true, eq-eqb, ne_eqb}
-use lib.Dec.{T, leb}
+use lib.Dec.{T, leb, ltb, lit<, le→leb}
 use Rattle.rules.specs.Bytes.{at}
 use Rattle.rules.proofs.Outcomes.{both}
 use Rattle.radio.specs.declared.Tlv.{Tlv}
@@ -53,22 +53,25 @@ module _ (fields bounds : List ℕ) where
       let b = both (leb (at fields i) (at bounds i)) (all_within k (suc i) fields bounds) e in
       ⊎_elim (λ d. subst (λ (x : ℕ). at fields x ≤ at bounds x) d (leb-true (at fields i) (at bounds i) b.0)) (λ m. within-at k (suc i) j b.1 m (omega arith)) (eq-or-lt_of_le l)
 
-  pub field_lt : (j m : ℕ) → all_within 11 0 fields bounds ≡ true → j < 11 → at bounds j < m → at fields j < m
-  field_lt j m e l h =
-      let k : at fields j ≤ at bounds j = within-at 11 0 j e (omega arith) (omega arith) in
-      omega arith
+  -- as the code tests it: the bounds are asked, and answer so
+  module _ {b : Bool} (asked : b ≡ all_within 11 0 fields bounds) where
+    pub field_lt : (j m : ℕ) → b ≡ true → T (ltb j 11) → T (ltb (at bounds j) m) → at fields j < m
+    field_lt j m e l h =
+        let k : at fields j ≤ at bounds j = within-at 11 0 j (sym asked ∙ e) (omega arith) (omega (arith, lit< l)) in
+        omega (arith, lit< h)
 
-  pub field_fits : (w : Width) (j m : ℕ) → all_within 11 0 fields bounds ≡ true → j < 11 → at bounds j < m → T (leb m (2 ^ bits w)) → Fits w (at fields j)
-  field_fits w j m e l h t = Fits-under w (at fields j) m (field_lt j m e l h) t
+    -- so each fits the width that holds its bound
+    pub field_fits : (w : Width) (j : ℕ) → b ≡ true → T (ltb j 11) → T (ltb (at bounds j) (2 ^ bits w)) → Fits w (at fields j)
+    field_fits w j e l h = Fits-under w (at fields j) (2 ^ bits w) (field_lt j (2 ^ bits w) e l h) (le→leb _ _ (le_refl _))
 
-  -- a TLV whose fields are within their bounds, and none
-  pub if_within_lem : (t : Tlv) → all_within 11 0 fields bounds ≡ true → if_within fields bounds t ≡ handed_over.Tlv t
-  unfolding if_within
-  if_within_lem t e = rw (e, if_within)
+    -- a TLV whose fields are within their bounds, and none
+    pub if_within_lem : (t : Tlv) → b ≡ true → handed_over.Tlv t ≡ if_within fields bounds t
+    unfolding if_within
+    if_within_lem t e = sym (rw (sym asked ∙ e, if_within))
 
-  pub if_not : (t : Tlv) → all_within 11 0 fields bounds ≡ false → if_within fields bounds t ≡ handed_over.Nothing
-  unfolding if_within
-  if_not t e = rw (e, if_within)
+    pub if_not : (t : Tlv) → b ≡ false → handed_over.Nothing ≡ if_within fields bounds t
+    unfolding if_within
+    if_not t e = sym (rw (sym asked ∙ e, if_within))
 
 -- by the type's number
 module _ (kind : ℕ) (f : List ℕ) where

@@ -139,10 +139,14 @@ pub sheet-again : (s : List ℕ) (rs : List rows.Row) → rows.sheet s ≡ good 
 unfolding rows.sheet
 sheet-again s rs e = let (a, f) = passed _ _ _ _ e in rows-again 0 0 s f
 
+-- n rows of a sheet that were read stand at the start of a table, which has room for them
+abbrev pub RowsRead : List ℕ → List ℕ → ℕ → Type 0
+RowsRead sheetBytes table n = (7 * n ≤ 224) × (7 * n ≤ length table) × (rows.sheet sheetBytes ≡ good (rows_in (take (7 * n) table)))
+
 -- what reading a sheet into a table answered, by its promise
 module _ (sheetBytes before after : List ℕ) (x : TableAnswer) (told : told_table x ≡ count_of_rows (rows.sheet sheetBytes)) (laid : after ≡ laid_out (rows.sheet sheetBytes) before) where
   -- its rows
-  pub rows-read : length before ≡ 224 → (n : ℕ) → x ≡ answer.Rows n → (7 * n ≤ 224) × (7 * n ≤ length after) × (rows.sheet sheetBytes ≡ good (rows_in (take (7 * n) after)))
+  pub rows-read : length before ≡ 224 → (n : ℕ) → x ≡ answer.Rows n → RowsRead sheetBytes after n
   rows-read l n e =
       let (rs, g, q) = stepped _ _ (sym (ap told_table (sym e) ∙ told)) in
       let m : length rs ≡ n = good_inj q in

@@ -15,8 +15,7 @@ wide : (c : After-wide16-l) → c.wide16-l.result ≡ half (drop c.loop-i.i c.ar
 wide c = c.wide16-l.ensures.0 ∙ c.half_at.ensures ∙ sym (half-drop _ _ 4)
 
 pub loop-i-init : goal.loop-i-init
-loop-i-init c =
-    walk_start c.args.run.now
+loop-i-init c = walk_start c.args.run.now
 
 pub returns-then-left-lt12 : goal.returns-then-left-lt12
 returns-then-left-lt12 c =
@@ -24,9 +23,7 @@ returns-then-left-lt12 c =
     walk_stopped c.args.run.now l.i l.all l.mid l.invariant (omega arith) (λ f. omega (arith, f.header, length-drop l.i c.args.run.now))
 
 pub overflow_add-i : goal.overflow_add-i
-overflow_add-i c =
-    let l = c.loop-i in
-    omega (arith, c.requires)
+overflow_add-i c = omega (arith, c.requires)
 
 pub returns-then-l-lt12 : goal.returns-then-l-lt12
 returns-then-l-lt12 c =
@@ -34,8 +31,7 @@ returns-then-l-lt12 c =
     walk_stopped c.args.run.now l.i l.all l.mid l.invariant (omega arith) (λ f. omega (arith, f.least, wide (goal.at.returns-then-l-lt12 c).After-wide16-l))
 
 pub round_up-n-requires : goal.round_up-n-requires
-round_up-n-requires c =
-    omega (arith, c.wide16-l.ensures.1)
+round_up-n-requires c = omega (arith, c.wide16-l.ensures.1)
 
 pub returns-then-left-n : goal.returns-then-left-n
 returns-then-left-n c =
@@ -43,14 +39,10 @@ returns-then-left-n c =
     walk_stopped c.args.run.now l.i l.all l.mid l.invariant (omega arith) (λ f. omega (arith, f.room, wide (goal.at.returns-then-left-n c).After-wide16-l, c.round_up-n.ensures, length-drop l.i c.args.run.now))
 
 pub overflow_add-mid : goal.overflow_add-mid
-overflow_add-mid c =
-    let l = c.loop-i in
-    omega (arith, c.requires)
+overflow_add-mid c = omega (arith, c.requires)
 
 pub overflow_add-i-in-loop-i : goal.overflow_add-i-in-loop-i
-overflow_add-i-in-loop-i c =
-    let l = c.loop-i in
-    omega (arith, c.requires)
+overflow_add-i-in-loop-i c = omega (arith, c.requires)
 
 pub overflow_add-all : goal.overflow_add-all
 overflow_add-all c =
@@ -58,8 +50,7 @@ overflow_add-all c =
     omega (arith, c.requires, l.invariant.few)
 
 pub loop-i-smaller : goal.loop-i-smaller
-loop-i-smaller c =
-    omega (arith, c.round_up-n.ensures)
+loop-i-smaller c = omega (arith, c.round_up-n.ensures)
 
 -- the package that was read fits
 fit : (c : Else-left-n) → Cut.Fit (drop c.loop-i.i c.args.run.now)

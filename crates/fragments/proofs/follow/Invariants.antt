@@ -1,8 +1,6 @@
 -- `fragments::follow` meets its contract: the fragments before `i` are read, each in its place.
-use lib.ListN.{length}
-use Rattle.fragments.proofs.Gathering.{Gathering}
-use lib.ListN.{length}
 use Prim.Native.Nat.{◌-◌, ◌<◌}
+use lib.ListN.{length}
 use Rattle.message.specs.Answers.{head_of_header}
 use Rattle.fragments.proofs.Gathering.{Gathering}
 use Rattle.fragments.proofs.follow.Given as goal

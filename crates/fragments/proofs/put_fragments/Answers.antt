@@ -7,25 +7,25 @@ use Rattle.fragments.proofs.Beginning.{pay_length, first-behind, second-length, 
 use Rattle.fragments.proofs.put_fragments.Goals as goal
 
 pub put_clean-requires : goal.put_clean-requires
-put_clean-requires c = let a = c.args in record { cuts = c.requires.cuttable.cuts; run_len_bound = (omega arith, omega arith, omega (arith, c.requires.cuttable.most)) }
+put_clean-requires c = record { cuts = c.requires.cuttable.cuts; run_len_bound = (omega arith, omega arith, omega (arith, c.requires.cuttable.most)) }
 
 pub put_first-requires : goal.put_first-requires
 put_first-requires c = let a = c.args in let s = second-length a.r a.options.now a.packages.now a.size c.requires.cuttable a.n c.requires.n_value.0 a.out.now c.requires.n_value.1 _ c.put_clean.ensures in record { movable = record { flags = flags-room a.r.flags 1 c.requires.cuttable.flags c.requires.cuttable.small (omega arith); behind = first-behind a.r a.options.now a.packages.now a.size c.requires.cuttable a.n c.requires.n_value.0 a.out.now c.requires.n_value.1; inside = omega (arith, s, c.requires.cuttable.more); short = omega (arith, c.requires.cuttable.more, c.requires.cuttable.most) }; options_len_bound = c.requires.cuttable.room }
 
 pub overflow_add-options : goal.overflow_add-options
-overflow_add-options c = let a = c.args in omega (arith, c.requires.cuttable.room)
+overflow_add-options c = omega (arith, c.requires.cuttable.room)
 
 pub round_up-requires : goal.round_up-requires
-round_up-requires c = let a = c.args in omega (arith, c.requires.cuttable.room)
+round_up-requires c = omega (arith, c.requires.cuttable.room)
 
 pub overflow_add-at : goal.overflow_add-at
-overflow_add-at c = let a = c.args in omega (arith, c.requires.cuttable.room, c.round_up.ensures)
+overflow_add-at c = omega (arith, c.requires.cuttable.room, c.round_up.ensures)
 
 pub overflow_add-at-2 : goal.overflow_add-at-2
-overflow_add-at-2 c = let a = c.args in omega (arith, c.requires.cuttable.room, c.requires.cuttable.more, c.requires.cuttable.most, c.round_up.ensures)
+overflow_add-at-2 c = omega (arith, c.requires.cuttable.room, c.requires.cuttable.more, c.requires.cuttable.most, c.round_up.ensures)
 
 pub overflow_add-from : goal.overflow_add-from
-overflow_add-from c = let a = c.args in omega (arith, c.requires.cuttable.more, c.requires.cuttable.most)
+overflow_add-from c = omega (arith, c.requires.cuttable.more, c.requires.cuttable.most)
 
 pub loop-from-init : goal.loop-from-init
 loop-from-init c = let a = c.args in begun_at a.r a.options.now a.packages.now a.size c.requires.cuttable a.n c.requires.n_value.0 a.out.now c.requires.n_value.1 _ c.put_clean.ensures _ c.put_first.ensures c.round_up.ensures c.next_number-q.ensures
@@ -40,16 +40,16 @@ pub put_at-requires : goal.put_at-requires
 put_at-requires c = let a = c.args in let l = c.loop-from in let m = c.least-m.ensures in record { movable = record { flags = flags-room a.r.flags _ c.requires.cuttable.flags c.requires.cuttable.small c.bits_at-bits.ensures.1; behind = behind (whole_by a.r a.options.now a.packages.now) a.size a.n (omega (arith, c.requires.cuttable.least)) _ l.out l.at l.from l.q l.invariant (omega arith); inside = omega (arith, m, l.invariant.long, l.invariant.fits); short = omega (arith, m, c.requires.cuttable.more, c.requires.cuttable.most) }; bits_bound = (c.bits_at-bits.ensures.1, omega arith) }
 
 pub overflow_add-at-in-loop-from : goal.overflow_add-at-in-loop-from
-overflow_add-at-in-loop-from c = let a = c.args in omega (arith, c.least-m.ensures, c.requires.cuttable.more, c.requires.cuttable.most)
+overflow_add-at-in-loop-from c = omega (arith, c.least-m.ensures, c.requires.cuttable.more, c.requires.cuttable.most)
 
 pub overflow_add-at-in-loop-from-2 : goal.overflow_add-at-in-loop-from-2
 overflow_add-at-in-loop-from-2 c = let a = c.args in let l = c.loop-from in omega (arith, c.least-m.ensures, c.requires.cuttable.more, c.requires.cuttable.most, behind (whole_by a.r a.options.now a.packages.now) a.size a.n (omega (arith, c.requires.cuttable.least)) _ l.out l.at l.from l.q l.invariant (omega arith))
 
 pub overflow_add-from-in-loop-from-2 : goal.overflow_add-from-in-loop-from-2
-overflow_add-from-in-loop-from-2 c = let a = c.args in omega (arith, c.least-m.ensures, c.requires.cuttable.more, c.requires.cuttable.most)
+overflow_add-from-in-loop-from-2 c = omega (arith, c.least-m.ensures, c.requires.cuttable.more, c.requires.cuttable.most)
 
 pub loop-from-smaller : goal.loop-from-smaller
-loop-from-smaller c = let a = c.args in omega (arith, c.least-m.ensures, c.requires.cuttable.least)
+loop-from-smaller c = omega (arith, c.least-m.ensures, c.requires.cuttable.least)
 
 pub loop-from-preserved : goal.loop-from-preserved
 loop-from-preserved c = let a = c.args in let l = c.loop-from in turn a.r a.options.now a.packages.now a.size a.n (omega (arith, c.requires.cuttable.least)) _ l.out l.at l.from l.q l.invariant (omega arith) _ _ _ _ c.least-m.ensures c.bits_at-bits.ensures.0 (omega (arith, l.invariant.place, pay_length a.r a.options.now a.packages.now a.size c.requires.cuttable)) c.next_number-q-in-loop-from.ensures c.put_at.ensures

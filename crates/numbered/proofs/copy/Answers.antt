@@ -1,17 +1,14 @@
 -- `numbered::copy` meets its contract: the ids or the sheet refused, or the copy under its rows.
 use mathlib.Core.Path.{◌≡◌, refl, sym, ap, subst, ◌∙◌}
-use Prim.Native.Nat.{ℕ, ◌*◌, ◌≤◌}
+use Prim.Native.Nat.{ℕ, ◌*◌}
 use native.Mathlib.Omega.{arith}
-use lib.ListN.{length, take, length-replicate}
+use lib.ListN.{length, length-replicate}
 use lib.Seq.{length-take-le}
-use Rattle.rules.specs.Outcome.{good}
-use Rattle.rules.specs.Sheet as rows
 use Rattle.numbered.specs.Quota.{settled, shorter, most_in}
-use Rattle.sheet.specs.Table.{rows_in}
 use Rattle.numbered.specs.Parts.{Most}
 use Rattle.numbered.specs.Told.{state_of}
 use Rattle.numbered.proofs.Whole.{most-first, most-is, ids-refused, sheet-refused}
-use Rattle.sheet.proofs.TableRows.{rows-read, sheet-refused as read-refused}
+use Rattle.sheet.proofs.TableRows.{RowsRead, rows-read, sheet-refused as read-refused}
 use Rattle.numbered.proofs.copy.Goals as goal
 use Rattle.numbered.proofs.copy.Goals.{After-most_in-most, In-Rows}
 
@@ -41,10 +38,7 @@ pub slice_bounds-read_table-end : goal.slice_bounds-read_table-end
 slice_bounds-read_table-end c = refl
 
 -- the sheet's rows are read
-abbrev Read : Type 0
-Read = In-Rows
-
-table-read : (c : Read) → (7 * c.in-Rows.n ≤ 224) × (7 * c.in-Rows.n ≤ length c.read_table-read.new.table) × (rows.sheet c.args.sheet.now ≡ good (rows_in (take (7 * c.in-Rows.n) c.read_table-read.new.table)))
+table-read : (c : In-Rows) → RowsRead c.args.sheet.now c.read_table-read.new.table c.in-Rows.n
 table-read c =
     let t = c.read_table-read in
     rows-read c.args.sheet.now _ _ t.result t.ensures.0 t.ensures.1 (length-replicate {A = ℕ} 224 0) _ c.in-Rows.is

@@ -1,15 +1,12 @@
 -- `numbered::measure` meets its contract: the ids or the sheet refused, or what is measured under its rows.
 use Prim.Native.Nat.{ℕ, ◌*◌, ◌≤◌}
-use mathlib.Core.Path.{◌≡◌, refl, sym, ap, subst, ◌∙◌}
+use mathlib.Core.Path.{refl, sym, ap, subst, ◌∙◌}
 use native.Mathlib.Omega.{arith}
-use lib.ListN.{length, take, length-replicate}
+use lib.ListN.{length, length-replicate}
 use lib.Seq.{length-take-le}
-use Rattle.rules.specs.Outcome.{good}
-use Rattle.rules.specs.Sheet as rows
 use Rattle.numbered.specs.Quota.{measured_ids}
-use Rattle.sheet.specs.Table.{rows_in}
 use Rattle.numbered.proofs.Whole.{shorter-least}
-use Rattle.sheet.proofs.TableRows.{rows-read, sheet-refused as read-refused}
+use Rattle.sheet.proofs.TableRows.{RowsRead, rows-read, sheet-refused as read-refused}
 use Rattle.numbered.proofs.Alone.{ids-bad, sheet-bad}
 use Rattle.numbered.proofs.measure.Goals as goal
 use Rattle.numbered.proofs.measure.Goals.{After-shorter-most, In-Rows}
@@ -35,10 +32,7 @@ pub slice_bounds-read_table-end : goal.slice_bounds-read_table-end
 slice_bounds-read_table-end c = refl
 
 -- the sheet's rows are read
-abbrev Read : Type 0
-Read = In-Rows
-
-table-read : (c : Read) → (7 * c.in-Rows.n ≤ 224) × (7 * c.in-Rows.n ≤ length c.read_table-read.new.table) × (rows.sheet c.args.sheet.now ≡ good (rows_in (take (7 * c.in-Rows.n) c.read_table-read.new.table)))
+table-read : (c : In-Rows) → RowsRead c.args.sheet.now c.read_table-read.new.table c.in-Rows.n
 table-read c =
     let t = c.read_table-read in
     rows-read c.args.sheet.now _ _ t.result t.ensures.0 t.ensures.1 (length-replicate {A = ℕ} 224 0) _ c.in-Rows.is

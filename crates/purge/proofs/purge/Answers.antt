@@ -1,15 +1,14 @@
 -- `purge::purge` meets its contract: the sheet refused, the recording refused, or what is kept with zeros behind it.
-use mathlib.Core.Path.{◌≡◌, sym, ap, ◌∙◌}
+use mathlib.Core.Path.{sym, ap, ◌∙◌}
 use mathlib.Core.List.{List}
-use Prim.Native.Nat.{ℕ, ◌*◌, ◌≤◌}
+use Prim.Native.Nat.{ℕ, ◌*◌}
 use native.Mathlib.Omega.{arith}
-use lib.ListN.{length, take, length-replicate}
+use lib.ListN.{take, length-replicate}
 use lib.Seq.{length-take-le}
-use Rattle.rules.specs.Outcome.{good}
 use Rattle.rules.specs.Sheet as rows
 use Rattle.message.specs.Answers.{told_check}
 use Rattle.sheet.specs.Table.{rows_in}
-use Rattle.sheet.proofs.TableRows.{rows-read, sheet-refused as read-refused}
+use Rattle.sheet.proofs.TableRows.{RowsRead, rows-read, sheet-refused as read-refused}
 use Rattle.purge.proofs.Answers.{sheet-refused, recording-refused, short, used, all_done}
 use Rattle.purge.proofs.purge.Goals as goal
 use Rattle.purge.proofs.purge.Goals.{In-Rows}
@@ -27,7 +26,7 @@ tableIn c = c.read_table-read.new.table
 abbrev sheetIn : Read → List rows.Row
 sheetIn c = rows_in (take (7 * many c) (tableIn c))
 
-read : (c : Read) → (7 * many c ≤ 224) × (7 * many c ≤ length (tableIn c)) × (rows.sheet c.args.sheet.now ≡ good (sheetIn c))
+read : (c : Read) → RowsRead c.args.sheet.now (tableIn c) (many c)
 read c = let q = c.read_table-read in rows-read _ _ _ q.result q.ensures.0 q.ensures.1 (length-replicate {A = ℕ} 224 0) _ c.in-Rows.is
 
 pub overflow_mul-end : goal.overflow_mul-end
