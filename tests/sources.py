@@ -191,12 +191,10 @@ def wrong_answers():
     """The entries of tests/wrong_answers.txt."""
     for block in re.split(r"\n\n+", re.sub(r"(?m)^#.*\n", "", read("tests/wrong_answers.txt")).strip("\n")):
         head, old, new = block.split("\n")
-        function, name, *where = head.split(" ")
-        where = dict(zip(where[::2], where[1::2]))
-        assert old[:2] == "- " and new[:2] == "+ " and set(where) <= {"in", "of"}, block
+        function, name, *private = head.split(" ")
+        assert old[:2] == "- " and new[:2] == "+ " and private[:1] in ([], ["in"]) and len(private) in (0, 2), block
         crate = function.split("::")[0]
-        changed = f"{crate}::{where['in']}" if "in" in where else function
-        yield Change(crate, name, [(where.get("of", "src/lib.rt"), old[2:], new[2:])], function, changed)
+        yield Change(crate, name, [("src/lib.rt", old[2:], new[2:])], function, f"{crate}::{private[1]}" if private else function)
 
 
 def promise_words(function):
