@@ -26,7 +26,7 @@ pub enum Filled {
     Failed(Error),
 }
 
-// Fills a buffer from a file, up to the file's end. No promise can say what a file holds.
+// Fills a buffer from a file, up to the file's end. Of a file std knows no bytes that are still to come, so no promise says what it holds.
 pub fn fill<R: Read>(file: &mut R, buf: &mut [u8]) -> Filled
     ensures { within result buf.new }
 {
