@@ -63,8 +63,16 @@ class Item:
         """Whether the code calls another function of the crate, or names a constant."""
         if not other.function:
             return re.search(rf"\b{other.name.split('::')[-1]}\b", self.text) is not None
-        before = re.findall(rf"(?:(\w+)::)?(?<!fn )\b{other.name.split('::')[-1]}\s*\(", self.text)
+        before = re.findall(rf"(?:(\w+)::)?(?<!fn )\b{other.name.split('::')[-1]}\s*(?:::<[^()]*>)?\(", self.text)
         return any(word not in crates() for word in before)
+
+
+def owner_of(trait, kind):
+    """What the prover calls the functions of an impl by: the type, and the trait that it has, if it has one, with what that is for: UsizeValues2."""
+    if not trait:
+        return kind
+    name = "Unit" if kind == "()" else kind[:1].upper() + kind[1:]
+    return name + "".join(re.findall(r"\w+", trait))
 
 
 def function_in(crate, path, text, found, types):
@@ -96,8 +104,8 @@ def items(crate):
     for path in sorted(glob.glob(f"{ROOT}/crates/{crate}/src/**/*.rt", recursive=True)):
         path = os.path.relpath(path, f"{ROOT}/crates/{crate}")
         text = plain(read(f"crates/{crate}/{path}"))
-        types = [(head.group(1), head.start(), block_end(text, head.end() - 1))
-                 for head in re.finditer(r"(?m)^impl\b(?:\s*<[^>]*>)?\s+(?:[^{]*?\bfor\s+)?(\w+)[^{]*\{", text)]
+        types = [(owner_of(head.group(1), head.group(2)), head.start(), block_end(text, head.end() - 1))
+                 for head in re.finditer(r"(?m)^impl\b(?:\s*<[^>]*>)?\s+(?:([^{]*?)\bfor\s+)?([\w()]+)[^{]*\{", text)]
         found += [function_in(crate, path, text, head, types) for head in FUNCTION.finditer(text)]
         found += [Item(crate, path, head.group(1), text, head.start(), block_end(text, head.end() - 1))
                   for head in re.finditer(r"(?m)^(?:pub )?const (\w+): [^=]*= \[", text)]

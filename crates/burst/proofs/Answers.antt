@@ -3,11 +3,11 @@ use Prim.Native.Nat.{ℕ, ◌<◌, ◌≤◌}
 use mathlib.Core.Path.{◌≡◌, refl, sym, ap}
 use mathlib.Core.Bool.{true, false, not}
 use mathlib.Core.List.{List, ◌++◌}
-use borrow.Author.Tests.{le-ltb, lt-ltb, leb-true}
+use borrow.Author.Tests.{le-ltb, lt-ltb}
 use lib.ListN.{length, take, drop}
 use Rattle.rules.specs.Outcome.{LARGE, MARKER, BLOCKS}
 use Rattle.rules.specs.Burst.{randomized, marked, codeblocks, blocks_fit, opening, Randomized, Opened, randomized_answer, opened_answer, randomizer, opener}
-use Rattle.rules.proofs.Outcomes.{pass, halt, both}
+use Rattle.rules.proofs.Outcomes.{pass, halt}
 
 abbrev told : ℕ → ℕ → List ℕ → Randomized × List ℕ
 told n p s = (record { number = n; place = p }, s)
@@ -41,6 +41,3 @@ module _ (s : List ℕ) where
       pub opener-done : (n : ℕ) (t : List ℕ) → blocks_fit (length s) ≡ true → n ≡ codeblocks (length s) → t ≡ take 8 s ++ randomized 0 (drop 8 s) → opened 0 0 n t ≡ opener s
       unfolding opener opening opened_answer
       opener-done n t b f e = rw (f, e) (sym (ap (opened_answer s) (pass _ _ _ _ (le-ltb 65536 (length s) h) (pass _ _ _ _ (ap not m) (pass _ _ _ _ (ap not b) refl)))))
-
-pub room : (s : List ℕ) → marked s ≡ true → 8 ≤ length s
-room s m = leb-true 8 (length s) (both _ _ (both _ _ m).0).0

@@ -5,21 +5,7 @@ ghost use Rattle.std.specs.Prelude.{◌+◌, ◌≤◌, ◌≡◌, length};
 ghost use Rattle.rules.specs.Burst.{sequence_bytes, randomized, marked, blocks_fit, codeblocks, randomizer, opener};
 ghost use Rattle.burst.specs.Told.{told_randomized, told_opened};
 
-use refusal::{Refusal, Why};
-
-// The buffer is randomized, or why it was left as it was.
-#[derive(Clone, Copy)]
-pub enum Randomized {
-    Done,
-    Refused(Refusal),
-}
-
-// How many codeblocks were opened, or why none were.
-#[derive(Clone, Copy)]
-pub enum Opened {
-    Done { blocks: usize },
-    Refused(Refusal),
-}
+use refusal::{Refusal, Why, refuse};
 
 // One period of the sequence.
 const PERIOD: [u8; 255] = [
@@ -50,10 +36,8 @@ fn randomize_part(part: &mut [u8], table: &[u8], from: usize)
     requires table_value { table.now ≡ sequence_bytes 0 (length table.now) }
     ensures { part.new ≡ randomized from part.old }
 {
-    let mut k = 0;
-    while k < part.len() {
-        part[k] = part[k] ^ table[from + k];
-        k += 1;
+    for k in 0..part.len() {
+        part[k] ^= table[from + k];
     }
 }
 
@@ -85,15 +69,15 @@ fn randomize_few(part: &mut [u8], table: &[u8; 255])
     if part.len() < 1 {
         return;
     }
-    part[0] = part[0] ^ table[0];
+    part[0] ^= table[0];
     if part.len() < 2 {
         return;
     }
-    part[1] = part[1] ^ table[1];
+    part[1] ^= table[1];
     if part.len() < 3 {
         return;
     }
-    part[2] = part[2] ^ table[2];
+    part[2] ^= table[2];
 }
 
 // Randomizes at most one period. Beyond three bytes the loop alone knows the places, so a copy of the table is stored, a short one where that does; were the table lent itself, each call would store it.
@@ -129,41 +113,30 @@ fn randomize_all(buf: &mut [u8])
     randomize_rest(&mut buf[at..], &table);
 }
 
-// Randomizes a buffer. Randomizing it again gives its bytes back.
-pub fn randomize(buf: &mut [u8]) -> Randomized
+// Randomizes a buffer, or says why it was left as it was. Randomizing it again gives its bytes back.
+pub fn randomize(buf: &mut [u8]) -> Result<(), Refusal>
     ensures { told_randomized result buf.new ≡ randomizer buf.old }
 {
     if 65536 < buf.len() {
-        return Randomized::Refused(Refusal {
-            why: Why::Large,
-            place: 65536,
-        });
+        return refuse(Why::Large, 65536);
     }
     randomize_all(buf);
-    Randomized::Done
+    Ok(())
 }
 
 // Whether a buffer begins with the marker.
+#[tactic(auto, unfolding(rules::specs::Bytes::word))]
 fn is_marked(buf: &[u8]) -> bool
     ensures { result ≡ marked buf.now }
 {
-    if buf.len() < 8 {
-        return false;
-    }
-    if wire::word_at(buf, 0) != 0x034776C7 {
-        return false;
-    }
-    wire::word_at(buf, 4) == 0x272895B0
+    8 <= buf.len() && wire::word_at(buf, 0) == 0x034776C7 && wire::word_at(buf, 4) == 0x272895B0
 }
 
 // How many codeblocks stand behind the marker of a burst of n bytes.
 fn blocks_in(n: usize) -> usize
     ensures { result ≡ codeblocks n }
 {
-    if n < 8 {
-        return 0;
-    }
-    (n - 8) / 768
+    n.saturating_sub(8) / 768
 }
 
 // Whether they are 1 to 80 whole ones.
@@ -171,39 +144,25 @@ fn blocks_fit(n: usize) -> bool
     ensures { result ≡ blocks_fit n }
 {
     let blocks = blocks_in(n);
-    if blocks < 1 {
-        return false;
-    }
-    if 80 < blocks {
-        return false;
-    }
-    (n - 8) % 768 == 0
+    1 <= blocks && blocks <= 80 && (n - 8) % 768 == 0
 }
 
-fn refuse_with(why: Why, place: usize) -> Opened
-    ensures { result ≡ Opened.Refused (record { why = why; place = place }) }
-{
-    Opened::Refused(Refusal { why, place })
-}
-
-// Opens a burst: its codeblocks are randomized, the sequence running on from one to the next.
-pub fn open_burst(buf: &mut [u8]) -> Opened
+// Opens a burst: its codeblocks are randomized, the sequence running on from one to the next. How many they are, or why none were opened.
+pub fn open_burst(buf: &mut [u8]) -> Result<usize, Refusal>
     ensures { told_opened result buf.new ≡ opener buf.old }
 {
     let n = buf.len();
     let begun = is_marked(buf);
     let whole = blocks_fit(n);
     if 65536 < n {
-        return refuse_with(Why::Large, 65536);
+        return refuse(Why::Large, 65536);
     }
     if !begun {
-        return refuse_with(Why::Marker, 0);
+        return refuse(Why::Marker, 0);
     }
     if !whole {
-        return refuse_with(Why::Blocks, n);
+        return refuse(Why::Blocks, n);
     }
     randomize_all(&mut buf[8..]);
-    Opened::Done {
-        blocks: blocks_in(n),
-    }
+    Ok(blocks_in(n))
 }

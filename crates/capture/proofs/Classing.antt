@@ -17,10 +17,11 @@ use Rattle.rules.proofs.Outcomes.{both, good≢bad}
 use Rattle.rules.proofs.Spots.{of_record, spot-read}
 use Rattle.rules.proofs.Loops.{rest}
 use Rattle.rules.proofs.Alone.{message-inside}
+use Rattle.std.specs.Prelude.{Result, Ok, Err, MatchResult}
+use Rattle.refusal.specs.Numbers.{refused, outcome_by}
 use Rattle.refusal.specs.declared.Refusal.{Refusal}
 use Rattle.message.specs.declared.Message.{Message}
-use Rattle.message.specs.declared.MessageRead.TheVariants as M
-use Rattle.message.specs.Answers.{told_message}
+use Rattle.message.specs.Answers.{spot_of_message}
 use Rattle.capture.specs.Frame.{ip_of, ip_header, for_us, lengths_fit, data_of}
 use Rattle.capture.specs.Reading.{takes, one_message, kept, not_for_us, cut_short, bad_message, class_of}
 use Rattle.capture.specs.Told.{packet_by}
@@ -29,7 +30,7 @@ use Rattle.capture.proofs.Counting.{whole-one}
 -- ---- one message
 
 module _ (s : List ℕ) where
-  pub one-refused : length s ≤ 65536 → (f : Refusal) → told_message (M.Refused f) ≡ message_at s 0 → false ≡ one_message s
+  pub one-refused : length s ≤ 65536 → (f : Refusal) → refused f ≡ message_at s 0 → false ≡ one_message s
   unfolding one_message takes
   one-refused l f e = go (rule.message 0 s) refl
     where
@@ -37,12 +38,16 @@ module _ (s : List ℕ) where
       go (good r) q = let (k, g) = spot-read s 0 l r.0 r.1 q in absurd (good≢bad (e ∙ g))
       go (bad n p) q = refl
 
-  pub one-read : (m : Message) → told_message (M.Message m) ≡ message_at s 0 → eqb m.next (length s) ≡ one_message s
+  pub one-read : (m : Message) → good (spot_of_message m) ≡ message_at s 0 → eqb m.next (length s) ≡ one_message s
   unfolding one_message takes
   one-read m e =
       let w = of_record s 0 _ (sym e) in
       let n : m.next ≡ 0 + m.header.length = w.5 in
       rw (w.1, n, zero-add)
+
+  pub one-by : length s ≤ 65536 → (r : Result Message Refusal) (b : Bool) → outcome_by spot_of_message r ≡ message_at s 0 → MatchResult r (λ (m : Message). b ≡ eqb m.next (length s)) (λ (x : Refusal). b ≡ false) → b ≡ one_message s
+  one-by l (Ok m) b e h = h ∙ one-read m e
+  one-by l (Err f) b e h = h ∙ one-refused l f e
 
 -- ---- what the tests leave known
 

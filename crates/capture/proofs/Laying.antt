@@ -22,7 +22,7 @@ use Rattle.rules.proofs.Loops.{rest, Doing, doing_start, doing_next, doing_end, 
 use Rattle.capture.specs.File.{big, Packet, record_in, file_in}
 use Rattle.capture.specs.Writing.{packet_of, datagram, datagrams, file_of, write_stored, write_capture}
 use Rattle.capture.specs.Told.{record_front, ip_front, udp_front, front_of, Sendable, Sent, Roomy, records_of, LaidBehind, Laid, sums_of, weighed}
-use Rattle.capture.specs.declared.Sums.{Sums}
+use Rattle.capture.specs.declared.CaptureWritten.{CaptureWritten}
 use borrow.Rule.Slice.PartMut.{put_mid}
 use Rattle.compose.proofs.Stores.{sets-part}
 use Rattle.message.specs.declared.Message.{Message}
@@ -214,7 +214,7 @@ all_read port zero p (x ∷ s) e =
     let (ms, i) = all_read port (t.1 - 1) (suc p) s n in
     (r.0 ∷ ms, step _ _ g (front_of_lem _ _ (rw q i)))
 
-pub checked-by : (s : List ℕ) (port : ℕ) (t : Sums) → length s ≤ 65536 → good t ≡ weighed s port → Checked s
+pub checked-by : (s : List ℕ) (port : ℕ) (t : CaptureWritten) → length s ≤ 65536 → good t ≡ weighed s port → Checked s
 unfolding weighed rule.recording
 checked-by s port t l e =
     let (ks, r, _) = stepped _ _ (sym e) in
@@ -254,23 +254,23 @@ module _ (s : List ℕ) (port : ℕ) (buffer : List ℕ) where
         go : (o : Outcome (List Packet)) → items (datagram port) 0 0 s ≡ o → (record { number = n; place = p; bytes = 0; messages = 0 }, buffer) ≡ write_capture s port buffer
         go (good ks) r = absurd (good≢bad (e ∙ step _ _ r refl))
         go (bad m q) r =
-            let w : ◌≡◌ {A = Outcome Sums} (bad n p) (bad m q) = e ∙ stop _ _ r in
+            let w : ◌≡◌ {A = Outcome CaptureWritten} (bad n p) (bad m q) = e ∙ stop _ _ r in
             let a : n ≡ m = cc in
             let b : p ≡ q = cc in
             rw (a, b) (refused-with m q (datagrams-are r))
 
-    pub record Measured (t : Sums) : Type 0 where
+    pub record Measured (t : CaptureWritten) : Type 0 where
       pub packs : List Packet
       pub reads : items (datagram port) 0 0 s ≡ good packs
       pub sums : sums_of packs ≡ t
 
-    pub measured : (t : Sums) → good t ≡ weighed s port → Measured t
+    pub measured : (t : CaptureWritten) → good t ≡ weighed s port → Measured t
     unfolding weighed
     measured t e = let (ks, r, g) = stepped _ _ (sym e) in record { packs = ks; reads = r; sums = good_inj g }
 
-    module _ (t : Sums) (w : Measured t) where
+    module _ (t : CaptureWritten) (w : Measured t) where
       long : length (file_of w.packs) ≡ t.bytes
-      long = ap (λ (x : Sums). x.bytes) w.sums
+      long = ap (λ (x : CaptureWritten). x.bytes) w.sums
 
       pub no_room : length buffer < t.bytes → (record { number = ROOM; place = t.bytes; bytes = 0; messages = 0 }, buffer) ≡ write_capture s port buffer
       no_room l = sym (write-roomless s port buffer w.packs (datagrams-are w.reads) (omega (arith, long)) ∙ ap (λ (x : ℕ). (record { number = ROOM; place = x; bytes = 0; messages = 0 }, buffer)) long)
@@ -280,6 +280,6 @@ module _ (s : List ℕ) (port : ℕ) (buffer : List ℕ) where
 
       pub done-with : (after : List ℕ) → t.bytes ≤ length buffer → Laid s port buffer after → (record { number = 0; place = 0; bytes = t.bytes; messages = t.messages }, after) ≡ write_capture s port buffer
       done-with after l x =
-          ap (λ (y : Sums). (record { number = 0; place = 0; bytes = y.bytes; messages = y.messages }, after)) (sym w.sums)
+          ap (λ (y : CaptureWritten). (record { number = 0; place = 0; bytes = y.bytes; messages = y.messages }, after)) (sym w.sums)
           ∙ ap (λ (y : List ℕ). (record { number = 0; place = 0; bytes = length (file_of w.packs); messages = length w.packs }, y)) (x.right w.packs w.reads)
           ∙ sym (write-is s port buffer w.packs (datagrams-are w.reads) (omega (arith, long)))

@@ -44,19 +44,18 @@ module _ (file : List ℕ) (port : ℕ) (spots : List ℕ) where
             let b : bad n p ≡ measured file port = sym (stop _ _ (stop _ _ (pass _ _ _ _ (le-ltb 65536 (length file) small) (step _ _ e q)))) in
             refused-right n p m (c ∙ stop _ _ q) b
 
-    module _ (b : Bool) (eb : b ≡ header_good big file) where
-      pub measured-big : b ≡ true → (m : Outcome Counts) → (m ≡ counted_in (order_by true) file port) × SpotsIn (order_by true) file port spots → Right file port spots m
-      unfolding order_of
-      measured-big t = measured_in big (rw (← eb, t, order_of))
+    ordered : (b : Bool) → b ≡ header_good big file → header_good (order_by b) file ≡ true → order_of file ≡ good (order_by b)
+    unfolding order_of
+    ordered true e g = rw (g, order_of)
+    ordered false e g = rw (← e, g, order_of)
 
-      module _ (hb : b ≡ false) (c : Bool) (ec : c ≡ header_good little file) where
-        pub measured-little : c ≡ true → (m : Outcome Counts) → (m ≡ counted_in (order_by false) file port) × SpotsIn (order_by false) file port spots → Right file port spots m
-        unfolding order_of
-        measured-little t = measured_in little (rw (← eb, hb, ← ec, t, order_of))
+    pub measured-good : (b : Bool) → b ≡ header_good big file → header_good (order_by b) file ≡ true
+        → (m : Outcome Counts) → (m ≡ counted_in (order_by b) file port) × SpotsIn (order_by b) file port spots → Right file port spots m
+    measured-good b e g = measured_in (order_by b) (ordered b e g)
 
-        pub measured-none : c ≡ false → (m : Outcome Counts) → m ≡ bad CAPTURE 0 → Right file port spots m
-        unfolding measured taken packets order_of
-        measured-none t m i = refused-right _ _ m i (sym (stop _ _ (stop _ _ (pass _ _ _ _ (le-ltb 65536 (length file) small) (stop _ _ (rw (← eb, hb, ← ec, t, order_of)))))))
+    pub measured-none : header_good big file ≡ false → header_good little file ≡ false → (m : Outcome Counts) → m ≡ bad CAPTURE 0 → Right file port spots m
+    unfolding measured taken packets order_of
+    measured-none b l m i = refused-right _ _ m i (sym (stop _ _ (stop _ _ (pass _ _ _ _ (le-ltb 65536 (length file) small) (stop _ _ (rw (b, l, order_of)))))))
 
 -- ---- the answer
 

@@ -3,36 +3,39 @@ use Prim.Native.Nat.{ℕ}
 use mathlib.Core.Path.{◌≡◌, sym, ap, ap₂}
 use mathlib.Core.List.{List}
 use Rattle.rules.specs.Claims.{TellsApart}
+use Rattle.std.specs.Prelude.{Result, Ok, Err}
+use Rattle.refusal.specs.declared.Refusal.{Refusal}
 use Rattle.refusal.proofs.Numbers.{number_positive, same_refusal}
 use Rattle.capture.specs.Reading.{ReadAnswer}
 use Rattle.capture.specs.Writing.{WriteAnswer}
 use Rattle.capture.specs.Told.{numbers_read, told_read, numbers_written, told_write}
-use Rattle.capture.specs.declared.Counts.{Counts}
 use Rattle.capture.specs.declared.CaptureRead.{CaptureRead}
-use Rattle.capture.specs.declared.CaptureRead.TheVariants as read
 use Rattle.capture.specs.declared.CaptureWritten.{CaptureWritten}
-use Rattle.capture.specs.declared.CaptureWritten.TheVariants as written
 
-counted : ReadAnswer → Counts
-counted a = record { bytes = a.bytes; kept = a.kept; not_for_us = a.not_for_us; cut_short = a.cut_short; bad_message = a.bad_message }
+read_back : ReadAnswer → CaptureRead
+read_back a = record { counts = record { bytes = a.bytes; kept = a.kept; not_for_us = a.not_for_us; cut_short = a.cut_short; bad_message = a.bad_message } }
 
-same_read : (a b : CaptureRead) → numbers_read a ≡ numbers_read b → a ≡ b
-unfolding counted
-same_read (read.Done t) (read.Done u) e = ap read.Done (ap counted e)
-same_read (read.Done t) (read.Refused g) e = absurd (number_positive g.why (sym (ap (λ (x : ReadAnswer). x.number) e)))
-same_read (read.Refused f) (read.Done u) e = absurd (number_positive f.why (ap (λ (x : ReadAnswer). x.number) e))
-same_read (read.Refused f) (read.Refused g) e = ap read.Refused (same_refusal f g (ap (λ (x : ReadAnswer). x.number) e) (ap (λ (x : ReadAnswer). x.place) e))
+same_read : (a b : Result CaptureRead Refusal) → numbers_read a ≡ numbers_read b → a ≡ b
+unfolding read_back
+same_read (Ok t) (Ok u) e = ap Ok (ap read_back e)
+same_read (Ok t) (Err g) e = absurd (number_positive g.why (sym (ap (λ (x : ReadAnswer). x.number) e)))
+same_read (Err f) (Ok u) e = absurd (number_positive f.why (ap (λ (x : ReadAnswer). x.number) e))
+same_read (Err f) (Err g) e = ap Err (same_refusal f g (ap (λ (x : ReadAnswer). x.number) e) (ap (λ (x : ReadAnswer). x.place) e))
 
-pub tells-read : TellsApart (λ (x : CaptureRead × List ℕ). told_read x.0 x.1)
+pub tells-read : TellsApart (λ (x : Result CaptureRead Refusal × List ℕ). told_read x.0 x.1)
 tells-read (a, s) (b, t) e =
-    ap₂ (λ (x : CaptureRead) (y : List ℕ). (x, y)) (same_read a b (ap (λ (x : ReadAnswer × List ℕ). x.0) e)) (ap (λ (x : ReadAnswer × List ℕ). x.1) e)
+    ap₂ (λ (x : Result CaptureRead Refusal) (y : List ℕ). (x, y)) (same_read a b (ap (λ (x : ReadAnswer × List ℕ). x.0) e)) (ap (λ (x : ReadAnswer × List ℕ). x.1) e)
 
-same_written : (a b : CaptureWritten) → numbers_written a ≡ numbers_written b → a ≡ b
-same_written (written.Done n m) (written.Done k l) e = ap₂ (λ (x y : ℕ). written.Done x y) (ap (λ (x : WriteAnswer). x.bytes) e) (ap (λ (x : WriteAnswer). x.messages) e)
-same_written (written.Done n m) (written.Refused g) e = absurd (number_positive g.why (sym (ap (λ (x : WriteAnswer). x.number) e)))
-same_written (written.Refused f) (written.Done k l) e = absurd (number_positive f.why (ap (λ (x : WriteAnswer). x.number) e))
-same_written (written.Refused f) (written.Refused g) e = ap written.Refused (same_refusal f g (ap (λ (x : WriteAnswer). x.number) e) (ap (λ (x : WriteAnswer). x.place) e))
+written_back : WriteAnswer → CaptureWritten
+written_back a = record { bytes = a.bytes; messages = a.messages }
 
-pub tells-written : TellsApart (λ (x : CaptureWritten × List ℕ). told_write x.0 x.1)
+same_written : (a b : Result CaptureWritten Refusal) → numbers_written a ≡ numbers_written b → a ≡ b
+unfolding written_back
+same_written (Ok t) (Ok u) e = ap Ok (ap written_back e)
+same_written (Ok t) (Err g) e = absurd (number_positive g.why (sym (ap (λ (x : WriteAnswer). x.number) e)))
+same_written (Err f) (Ok u) e = absurd (number_positive f.why (ap (λ (x : WriteAnswer). x.number) e))
+same_written (Err f) (Err g) e = ap Err (same_refusal f g (ap (λ (x : WriteAnswer). x.number) e) (ap (λ (x : WriteAnswer). x.place) e))
+
+pub tells-written : TellsApart (λ (x : Result CaptureWritten Refusal × List ℕ). told_write x.0 x.1)
 tells-written (a, s) (b, t) e =
-    ap₂ (λ (x : CaptureWritten) (y : List ℕ). (x, y)) (same_written a b (ap (λ (x : WriteAnswer × List ℕ). x.0) e)) (ap (λ (x : WriteAnswer × List ℕ). x.1) e)
+    ap₂ (λ (x : Result CaptureWritten Refusal) (y : List ℕ). (x, y)) (same_written a b (ap (λ (x : WriteAnswer × List ℕ). x.0) e)) (ap (λ (x : WriteAnswer × List ℕ). x.1) e)

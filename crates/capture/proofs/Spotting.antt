@@ -8,13 +8,13 @@ use native.Mathlib.Omega.{arith}
 use borrow.Author.Tests.{ltb-true, ltb-false}
 use lib.Dec.{ltb}
 use lib.ListN.{length, get_or, take, drop, set, take-append-drop, length-append, length-drop, length-set, get_or-append}
-use lib.Seq.{sets, take_all, take-suc, drop-drop, length-take-le, length-sets, get_or-append_seam, get_or-set_same, get_or-set_other}
+use lib.Seq.{sets, take-suc, drop-drop, length-take-le, length-sets, get_or-append_seam, get_or-set_same, get_or-set_other}
 use Rattle.rules.specs.Bytes.{part, join}
 use Rattle.rules.proofs.Alone.{part-append}
 use Rattle.rules.proofs.Loops.{sets-sets}
 use Rattle.capture.specs.File.{Packet}
 use Rattle.capture.specs.Reading.{Class, kept, not_for_us, cut_short, bad_message, class_of, counted, taken_of}
-use Rattle.capture.specs.Told.{told_class, Placed, with_class, Added, noted, Spot, Spots, noting, More, Stored}
+use Rattle.capture.specs.Told.{told_class, Placed, with_class, noted, Spot, Spots, noting, More}
 use Rattle.capture.specs.declared.Packed.{Packed}
 use Rattle.capture.specs.declared.Packed.TheVariants as packed
 use Rattle.capture.specs.declared.Counts.{Counts}
@@ -24,23 +24,6 @@ use Rattle.capture.proofs.Counting.{in_order}
 
 placed-long : (frame : List ℕ) (from to : ℕ) → Placed (length frame) (packed.Kept from to) → length (part from to frame) ≡ to - from
 placed-long frame from to (a, b, l) = length-take-le (to - from) (drop from frame) (omega (arith, length-drop from frame))
-
-pub kept_added : (t : Counts) (from to : ℕ)
-    → Added t (packed.Kept from to) (record { bytes = t.bytes + (to - from); kept = t.kept + 1; not_for_us = t.not_for_us; cut_short = t.cut_short; bad_message = t.bad_message })
-kept_added t from to = record { right = λ frame p. rw (placed-long frame from to p) }
-
-pub added_as : (t r : Counts) (p q : Packed) → p ≡ q → Added t q r → Added t p r
-added_as t r p q e a = rw e a
-
-pub placed-more : (m n : ℕ) (p : Packed) → m ≤ n → Placed m p → Placed n p
-placed-more m n (packed.Kept from to) h (a, b, l) = (a, b, omega (arith, h, l))
-placed-more m n packed.NotForUs h p = p
-placed-more m n packed.CutShort h p = p
-placed-more m n packed.BadMessage h p = p
-
-pub more_of : (t r : Counts) (before after : List ℕ) (start : ℕ) (frame : List ℕ) (p : Packed) (c : Class) → (told_class frame p ≡ c) × Placed (length frame) p → after ≡ noting before t.kept start p → Added t p r
-    → More t r before after start frame c
-more_of t r before after start frame p c (e, l) w a = record { packed = p; told = e; placed = l; counts = a.right frame l ∙ ap (with_class t) e; spots = w }
 
 -- the record of a message that is kept has 82 bytes at least
 small_by : (t : Counts) (frame : List ℕ) (p : Packed) → Placed (length frame) p
@@ -132,27 +115,20 @@ pub record Storing (file spots : List ℕ) (n : ℕ) (before after : List ℕ) (
   pub same : length after ≡ length before
   pub right : (cs : List (List ℕ)) → length cs ≡ n → Spots file spots cs → (to ≡ length (join (take i cs))) × (after ≡ sets before 0 (join (take i cs)))
 
-module _ (file spots : List ℕ) (n : ℕ) (before : List ℕ) where
-  pub storing_start : Storing file spots n before before 0 0
-  storing_start = record { low = omega arith; same = refl; right = λ cs l s. (refl, refl) }
-
-  module _ (after : List ℕ) (to i : ℕ) (inv : Storing file spots n before after to i) where
-    pub storing_end : n ≤ i → Stored file spots n before after
-    storing_end h = record { right = λ cs l s. (inv.right cs l s).1 ∙ ap (λ (x : List (List ℕ)). sets before 0 (join x)) (take_all i cs (omega (arith, l))) }
-
-    pub storing_next : i < n → (after' : List ℕ) (to' : ℕ) → (after' ≡ sets after to (noted file (get_or spots i 0))) × (to' ≡ to + get_or spots i 0 % 65536) → Storing file spots n before after' to' (i + 1)
-    storing_next h after' to' (w, e) = record {
-      low = omega (arith, e, inv.low);
-      same = ap length w ∙ length-sets after to (noted file (get_or spots i 0)) ∙ inv.same;
-      right = λ cs l s.
-          let (t, a) = inv.right cs l s in
-          let p = s.each i (omega (arith, l)) in
-          let c = get_or cs i [] in
-          let old = join (take i cs) in
-          let n : i + 1 ≡ suc i = omega arith in
-          let j : join (take (i + 1) cs) ≡ old ++ c = ap join (ap (λ (x : ℕ). take x cs) n ∙ take-suc cs i [] (omega (arith, l))) ∙ join_last (take i cs) c in (
-            omega (arith, e, t, p.size, ap length j, length-append old c),
-            w ∙ ap (sets after to) p.bytes ∙ ap (λ (x : List ℕ). sets x to c) a ∙ ap (λ (x : ℕ). sets (sets before 0 old) x c) (t ∙ sym (zero-add (length old)))
-                ∙ sets-sets old c before 0 ∙ ap (sets before 0) (sym j),
-          );
-    }
+module _ (file spots : List ℕ) (n : ℕ) (before after : List ℕ) (to i : ℕ) (inv : Storing file spots n before after to i) where
+  pub storing_next : i < n → (after' : List ℕ) (to' : ℕ) → (after' ≡ sets after to (noted file (get_or spots i 0))) × (to' ≡ to + get_or spots i 0 % 65536) → Storing file spots n before after' to' (i + 1)
+  storing_next h after' to' (w, e) = record {
+    low = omega (arith, e, inv.low);
+    same = ap length w ∙ length-sets after to (noted file (get_or spots i 0)) ∙ inv.same;
+    right = λ cs l s.
+        let (t, a) = inv.right cs l s in
+        let p = s.each i (omega (arith, l)) in
+        let c = get_or cs i [] in
+        let old = join (take i cs) in
+        let n : i + 1 ≡ suc i = omega arith in
+        let j : join (take (i + 1) cs) ≡ old ++ c = ap join (ap (λ (x : ℕ). take x cs) n ∙ take-suc cs i [] (omega (arith, l))) ∙ join_last (take i cs) c in (
+          omega (arith, e, t, p.size, ap length j, length-append old c),
+          w ∙ ap (sets after to) p.bytes ∙ ap (λ (x : List ℕ). sets x to c) a ∙ ap (λ (x : ℕ). sets (sets before 0 old) x c) (t ∙ sym (zero-add (length old)))
+              ∙ sets-sets old c before 0 ∙ ap (sets before 0) (sym j),
+        );
+  }

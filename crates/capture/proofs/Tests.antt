@@ -13,8 +13,9 @@ use Rattle.wire.specs.Order.{reversed}
 use Rattle.wire.proofs.Order.{turned-back}
 use Rattle.capture.specs.File.{Order, half_in, word_in, header_good}
 use Rattle.capture.specs.Frame.{ip_header, for_us, lengths_fit}
+use Rattle.std.specs.Prelude.{Option, Some, None}
 use Rattle.capture.specs.Told.{order_by, slot_of, datagram_for_us}
-use Rattle.capture.specs.declared.Slot.TheVariants.{Record, Cut}
+use Rattle.capture.specs.declared.Slot.{Slot}
 
 -- ---- numbers in a byte order
 
@@ -64,16 +65,16 @@ module _ (o : Order) (s : List ℕ) where
 -- ---- a record
 
 module _ (o : Order) (s : List ℕ) where
-  pub slot_short : length s < 16 → Cut ≡ slot_of o s
+  pub slot_short : length s < 16 → None ≡ slot_of o s
   unfolding slot_of
   slot_short h = rw (lt-leb 16 (length s) h, slot_of)
 
   module _ (h : 16 ≤ length s) (n : ℕ) (en : n ≡ word_in o s 8) where
-    pub slot_cut : length s < 16 + n → Cut ≡ slot_of o s
+    pub slot_cut : length s < 16 + n → None ≡ slot_of o s
     unfolding slot_of
     slot_cut l = rw (le-leb 16 (length s) h, lt-leb (16 + word_in o s 8) (length s) (omega (arith, en)), slot_of)
 
-    pub slot_whole : 16 + n ≤ length s → (w : ℕ) → w ≡ word_in o s 12 → Record (16 + n) w ≡ slot_of o s
+    pub slot_whole : 16 + n ≤ length s → (w : ℕ) → w ≡ word_in o s 12 → ◌≡◌ {A = Option Slot} (Some (record { size = 16 + n; original = w })) (slot_of o s)
     unfolding slot_of
     slot_whole l w ew = rw (le-leb 16 (length s) h, le-leb (16 + word_in o s 8) (length s) (omega (arith, en)), slot_of) (rw (en, ew))
 

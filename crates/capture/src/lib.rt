@@ -4,14 +4,15 @@
 ghost use Rattle.std.specs.Prelude.{◌≡◌, [], ◌+◌, ◌-◌, ◌*◌, ◌%◌, ◌≤◌, ◌<◌, length};
 ghost use Rattle.std.proofs.lemmas.List.Edits.{sets};
 ghost use Rattle.rules.specs.Bytes.{pad};
+ghost use Rattle.refusal.specs.Numbers.{outcome_of};
 ghost use Rattle.capture.specs.File.{half_in, word_in, header_good};
 ghost use Rattle.capture.specs.Frame.{ip_header, for_us, lengths_fit, carried, checksum};
 ghost use Rattle.capture.specs.Reading.{one_message, class_of, read_capture};
 ghost use Rattle.capture.specs.Writing.{file_of, write_capture};
-ghost use Rattle.capture.specs.Told.{order_by, slot_of, datagram_for_us, packet_by, told_class, Placed, Low, Added, noting, More, told_measured, counted_in, noted, SpotsIn, Stored, measured, Spotted, told_read, record_front, ip_front, udp_front, front_of, Weighs, Sendable, Sent, Roomy, LaidBehind, Laid, told_write};
+ghost use Rattle.capture.specs.Told.{order_by, slot_of, datagram_for_us, packet_by, told_class, Placed, Low, Added, noting, More, counted_in, noted, SpotsIn, Stored, measured, Spotted, told_read, record_front, ip_front, udp_front, front_of, Weighs, Sendable, Sent, Roomy, LaidBehind, Laid, told_write};
 
-use message::{Checked, Message, MessageRead, message_at};
-use refusal::{Refusal, Why};
+use message::{Message, message_at};
+use refusal::{Refusal, Why, refuse};
 
 // The number of 16 bits at place k in a byte order.
 fn half_in(big: bool, s: &[u8], k: usize) -> u16
@@ -54,25 +55,26 @@ fn header_good(big: bool, s: &[u8]) -> bool
     word_in(big, s, 20) == 1
 }
 
-// A record: where it ends, and how many bytes its packet had on the wire; or that the file's end cuts it.
+// A record: where it ends, and how many bytes its packet had on the wire.
 #[derive(Clone, Copy)]
-enum Slot {
-    Record(usize, u32),
-    Cut,
+struct Slot {
+    size: usize,
+    original: u32,
 }
 
-// The record at the start of s.
-fn slot_of(big: bool, s: &[u8]) -> Slot
+// The record at the start of s, unless the file's end cuts it.
+fn slot_of(big: bool, s: &[u8]) -> Option<Slot>
     ensures { result ≡ slot_of (order_by big) s.now }
 {
     if s.len() < 16 {
-        return Slot::Cut;
+        return None;
     }
-    let end = 16 + word_in(big, s, 8) as usize;
-    if s.len() < end {
-        return Slot::Cut;
+    let size = 16 + word_in(big, s, 8) as usize;
+    if s.len() < size {
+        return None;
     }
-    Slot::Record(end, word_in(big, s, 12))
+    let original = word_in(big, s, 12);
+    Some(Slot { size, original })
 }
 
 // How many bytes an IPv4 header says that it has.
@@ -144,10 +146,7 @@ fn one_message(s: &[u8]) -> bool
     requires { length s.now ≤ 65536 }
     ensures { result ≡ one_message s.now }
 {
-    match message_at(s, 0) {
-        MessageRead::Refused(_) => false,
-        MessageRead::Message(m) => m.next == s.len(),
-    }
+    message_at(s, 0).is_ok_and(|m| m.next == s.len())
 }
 
 // A packet: kept, with where its message is in the frame, or under which count it comes.
@@ -183,7 +182,7 @@ fn class_of(port: u16, frame: &[u8], original: u32) -> Packed
 }
 
 // What reading reports: the bytes of the recording, and the four counts.
-#[derive(Clone, Copy)]
+#[derive(Clone, Copy, PartialEq, Eq, Default)]
 pub struct Counts {
     pub bytes: usize,
     pub kept: usize,
@@ -201,30 +200,19 @@ fn with_class(t: Counts, class: Packed) -> Counts
         Packed::Kept(from, to) => Counts {
             bytes: t.bytes + (to - from),
             kept: t.kept + 1,
-            not_for_us: t.not_for_us,
-            cut_short: t.cut_short,
-            bad_message: t.bad_message,
+            ..t
         },
         Packed::NotForUs => Counts {
-            bytes: t.bytes,
-            kept: t.kept,
             not_for_us: t.not_for_us + 1,
-            cut_short: t.cut_short,
-            bad_message: t.bad_message,
+            ..t
         },
         Packed::CutShort => Counts {
-            bytes: t.bytes,
-            kept: t.kept,
-            not_for_us: t.not_for_us,
             cut_short: t.cut_short + 1,
-            bad_message: t.bad_message,
+            ..t
         },
         Packed::BadMessage => Counts {
-            bytes: t.bytes,
-            kept: t.kept,
-            not_for_us: t.not_for_us,
-            cut_short: t.cut_short,
             bad_message: t.bad_message + 1,
+            ..t
         },
     }
 }
@@ -242,13 +230,8 @@ fn note(spots: &mut [u32; 800], k: usize, start: usize, class: Packed)
     requires { (k < 800) × (start ≤ 65536) × Placed (65536 - start) class }
     ensures { spots.new ≡ noting spots.old k start class }
 {
-    match class {
-        Packed::Kept(from, to) => {
-            spots[k] = spot_of(start + from, to - from);
-        }
-        Packed::NotForUs => {}
-        Packed::CutShort => {}
-        Packed::BadMessage => {}
+    if let Packed::Kept(from, to) = class {
+        spots[k] = spot_of(start + from, to - from);
     }
 }
 
@@ -270,66 +253,39 @@ fn with_packet(
     with_class(t, class)
 }
 
-#[derive(Clone, Copy)]
-enum Measured {
-    Fits(Counts),
-    Refused(Refusal),
-}
-
 // What the records of a file in a byte order come to, or the first that the file's end cuts; and where the messages are that are kept.
 // The record of such a message has 82 bytes at least, so there are fewer than 800 of them.
-fn count(file: &[u8], big: bool, port: u16, spots: &mut [u32; 800]) -> Measured
+fn count(file: &[u8], big: bool, port: u16, spots: &mut [u32; 800]) -> Result<Counts, Refusal>
     requires { (24 ≤ length file.now) × (length file.now ≤ 65536) × (length spots.old ≡ 800) }
-    ensures { (told_measured result ≡ counted_in (order_by big) file.now port) × SpotsIn (order_by big) file.now port spots.new }
+    ensures { (outcome_of result ≡ counted_in (order_by big) file.now port) × SpotsIn (order_by big) file.now port spots.new }
 {
-    let mut counts = Counts {
-        bytes: 0,
-        kept: 0,
-        not_for_us: 0,
-        cut_short: 0,
-        bad_message: 0,
-    };
+    let mut counts = Counts::default();
     let mut at = 24;
     while at < file.len() {
-        match slot_of(big, &file[at..]) {
-            Slot::Record(size, original) => {
-                let from = at + 16;
-                let next = at + size;
-                counts = with_packet(counts, port, &file[from..next], original, from, spots);
-                at = next;
-            }
-            Slot::Cut => {
-                return Measured::Refused(Refusal {
-                    why: Why::Capture,
-                    place: at,
-                });
-            }
-        }
+        let Some(slot) = slot_of(big, &file[at..]) else {
+            return refuse(Why::Capture, at);
+        };
+        let from = at + 16;
+        let next = at + slot.size;
+        counts = with_packet(counts, port, &file[from..next], slot.original, from, spots);
+        at = next;
     }
-    Measured::Fits(counts)
-}
-
-fn refuse(why: Why, place: usize) -> Measured
-    ensures { result ≡ Measured.Refused (record { why = why; place = place }) }
-{
-    Measured::Refused(Refusal { why, place })
+    Ok(counts)
 }
 
 // What reading a file comes to, or why the file is refused; and where the messages are that are kept.
-fn measure(file: &[u8], port: u16, spots: &mut [u32; 800]) -> Measured
+fn measure(file: &[u8], port: u16, spots: &mut [u32; 800]) -> Result<Counts, Refusal>
     requires { length spots.old ≡ 800 }
-    ensures { (told_measured result ≡ measured file.now port) × Spotted file.now port spots.new }
+    ensures { (outcome_of result ≡ measured file.now port) × Spotted file.now port spots.new }
 {
     if 65536 < file.len() {
         return refuse(Why::Large, 65536);
     }
-    if header_good(true, file) {
-        return count(file, true, port, spots);
+    let big = header_good(true, file);
+    if !big && !header_good(false, file) {
+        return refuse(Why::Capture, 0);
     }
-    if header_good(false, file) {
-        return count(file, false, port, spots);
-    }
-    refuse(Why::Capture, 0)
+    count(file, big, port, spots)
 }
 
 // Stores the message that is noted by a spot from `to` on, and says where the next one goes.
@@ -349,38 +305,28 @@ fn store(file: &[u8], spots: &[u32; 800], n: usize, out: &mut [u8])
     ensures { Stored file.now spots.now n out.old out.new }
 {
     let mut to = 0;
-    let mut i = 0;
-    while i < n {
-        to = put_noted(out, to, file, spots[i]);
-        i += 1;
+    for spot in &spots[..n] {
+        to = put_noted(out, to, file, *spot);
     }
 }
 
-// What was read, or why nothing was.
-#[derive(Clone, Copy)]
-pub enum CaptureRead {
-    Done(Counts),
-    Refused(Refusal),
+// What was read.
+#[derive(Clone, Copy, PartialEq, Eq)]
+pub struct CaptureRead {
+    pub counts: Counts,
 }
 
 // Takes the messages of a capture file's datagrams to the port into a recording.
-pub fn read_capture(file: &[u8], port: u16, out: &mut [u8]) -> CaptureRead
+pub fn read_capture(file: &[u8], port: u16, out: &mut [u8]) -> Result<CaptureRead, Refusal>
     ensures { told_read result out.new ≡ read_capture file.now port out.old }
 {
     let mut spots = [0u32; 800];
-    match measure(file, port, &mut spots) {
-        Measured::Refused(f) => CaptureRead::Refused(f),
-        Measured::Fits(t) => {
-            if out.len() < t.bytes {
-                return CaptureRead::Refused(Refusal {
-                    why: Why::Room,
-                    place: t.bytes,
-                });
-            }
-            store(file, &spots, t.kept, out);
-            CaptureRead::Done(t)
-        }
+    let counts = measure(file, port, &mut spots)?;
+    if out.len() < counts.bytes {
+        return refuse(Why::Room, counts.bytes);
     }
+    store(file, &spots, counts.kept, out);
+    Ok(CaptureRead { counts })
 }
 
 // A sum of two halves, with its carry added in at the low end.
@@ -456,21 +402,15 @@ fn clean_size(m: Message) -> usize
     24 + (h.run + 3) / 4 * 4 + (m.next - m.payload)
 }
 
-// What a capture file takes: its bytes, and the messages that it carries.
-#[derive(Clone, Copy)]
-struct Sums {
-    bytes: usize,
-    messages: usize,
-}
-
-#[derive(Clone, Copy)]
-enum Weighed {
-    Fits(Sums),
-    Refused(Refusal),
+// How many bytes a capture file has, and how many messages they carry.
+#[derive(Clone, Copy, PartialEq, Eq)]
+pub struct CaptureWritten {
+    pub bytes: usize,
+    pub messages: usize,
 }
 
 // What the file of a recording's messages takes, or the first message that is refused.
-fn weigh(recording: &[u8]) -> Weighed
+fn weigh(recording: &[u8]) -> Result<CaptureWritten, Refusal>
     requires { length recording.now ≤ 65536 }
     ensures { Weighs recording.now result }
 {
@@ -478,26 +418,17 @@ fn weigh(recording: &[u8]) -> Weighed
     let mut messages = 0;
     let mut at = 0;
     while at < recording.len() {
-        match message_at(recording, at) {
-            MessageRead::Message(m) => {
-                let next = m.next;
-                let n = clean_size(m);
-                if 65507 < n {
-                    return Weighed::Refused(Refusal {
-                        why: Why::Large,
-                        place: at,
-                    });
-                }
-                bytes += 58 + n;
-                messages += 1;
-                at = next;
-            }
-            MessageRead::Refused(f) => {
-                return Weighed::Refused(f);
-            }
+        let m = message_at(recording, at)?;
+        let next = m.next;
+        let n = clean_size(m);
+        if 65507 < n {
+            return refuse(Why::Large, at);
         }
+        bytes += 58 + n;
+        messages += 1;
+        at = next;
     }
-    Weighed::Fits(Sums { bytes, messages })
+    Ok(CaptureWritten { bytes, messages })
 }
 
 // Stores the header of a capture file.
@@ -520,7 +451,8 @@ fn put_message(out: &mut [u8], to: usize, port: u16, m: Message, s: &[u8]) -> us
     let h = m.header;
     put_front(out, to, h.seconds, h.nanos, port, n);
     let from = to + 58;
-    compose::clean(s, &mut out[from..]);
+    // It was weighed, so that it is not refused.
+    let _ = compose::clean(s, &mut out[from..]);
     from + n
 }
 
@@ -532,8 +464,7 @@ fn put_messages(recording: &[u8], port: u16, out: &mut [u8])
     let mut to = 24;
     let mut at = 0;
     while at < recording.len() {
-        let found = message_at(recording, at);
-        let MessageRead::Message(m) = found else {
+        let Ok(m) = message_at(recording, at) else {
             return;
         };
         let next = m.next;
@@ -551,41 +482,25 @@ fn lay(recording: &[u8], port: u16, out: &mut [u8])
     put_messages(recording, port, out);
 }
 
-// How many bytes were written and how many messages they carry, or why none were.
-#[derive(Clone, Copy)]
-pub enum CaptureWritten {
-    Done { bytes: usize, messages: usize },
-    Refused(Refusal),
-}
-
 // Writes the messages of a recording, each in clean form and in a datagram of its own to the port, as a capture file.
-pub fn write_capture(recording: &[u8], port: u16, out: &mut [u8]) -> CaptureWritten
+pub fn write_capture(recording: &[u8], port: u16, out: &mut [u8]) -> Result<CaptureWritten, Refusal>
     ensures { told_write result out.new ≡ write_capture recording.now port out.old }
 {
     if 65536 < recording.len() {
-        return CaptureWritten::Refused(Refusal {
-            why: Why::Large,
-            place: 65536,
-        });
+        return refuse(Why::Large, 65536);
     }
     match weigh(recording) {
         // A message that is refused comes before one whose clean form is too large, wherever it stands.
-        Weighed::Refused(f) => match message::check(recording) {
-            Checked::Refused(g) => CaptureWritten::Refused(g),
-            Checked::Passed { .. } => CaptureWritten::Refused(f),
-        },
-        Weighed::Fits(t) => {
+        Err(f) => {
+            message::check(recording)?;
+            Err(f)
+        }
+        Ok(t) => {
             if out.len() < t.bytes {
-                return CaptureWritten::Refused(Refusal {
-                    why: Why::Room,
-                    place: t.bytes,
-                });
+                return refuse(Why::Room, t.bytes);
             }
             lay(recording, port, out);
-            CaptureWritten::Done {
-                bytes: t.bytes,
-                messages: t.messages,
-            }
+            Ok(t)
         }
     }
 }

@@ -21,20 +21,20 @@ use Rattle.rules.specs.Valid.{DraftFits}
 use Rattle.rules.specs.Claims.{TellsApart}
 use Rattle.rules.proofs.Writer.{accepts, accepted_valid}
 use Rattle.refusal.proofs.Numbers.{number_positive, same_refusal}
-use Rattle.compose.specs.declared.Written.{Written}
-use Rattle.compose.specs.declared.Written.TheVariants.{Done, Refused}
+use Rattle.std.specs.Prelude.{Result, Ok, Err}
+use Rattle.refusal.specs.declared.Refusal.{Refusal}
 use Rattle.compose.specs.Told.{numbers, told}
 use Rattle.compose.proofs.Answered.{answer}
 
 -- two answers, each with the buffer after it, that are told alike are the same: a promise of `write` or of `clean` allows one outcome alone
 same_numbers : TellsApart numbers
-same_numbers (Done m) (Done n) e = ap (λ (r : answers.Written). Done r.bytes) e
-same_numbers (Done m) (Refused x) e = absurd (number_positive x.why (sym (ap (λ (r : answers.Written). r.number) e)))
-same_numbers (Refused x) (Done n) e = absurd (number_positive x.why (ap (λ (r : answers.Written). r.number) e))
-same_numbers (Refused x) (Refused y) e =
-    ap Refused (same_refusal x y (ap (λ (r : answers.Written). r.number) e) (ap (λ (r : answers.Written). r.place) e))
+same_numbers (Ok m) (Ok n) e = ap (λ (r : answers.Written). Ok r.bytes) e
+same_numbers (Ok m) (Err x) e = absurd (number_positive x.why (sym (ap (λ (r : answers.Written). r.number) e)))
+same_numbers (Err x) (Ok n) e = absurd (number_positive x.why (ap (λ (r : answers.Written). r.number) e))
+same_numbers (Err x) (Err y) e =
+    ap Err (same_refusal x y (ap (λ (r : answers.Written). r.number) e) (ap (λ (r : answers.Written). r.place) e))
 
-pub tells_apart : TellsApart (λ (x : Written × List ℕ). told x.0 x.1)
+pub tells_apart : TellsApart (λ (x : Result ℕ Refusal × List ℕ). told x.0 x.1)
 tells_apart = beside numbers same_numbers
 
 -- bytes that were stored at the start of a buffer stand there
@@ -68,14 +68,14 @@ cleaned-again s b m n v h e l = record {
 }
 
 -- so the answer that a promise allows says how many bytes were written, and the buffer that it leaves is read as the record
-pub record Stands (m : Message) (a : Written) (after : List ℕ) : Type 0 where
-  pub bytes : a ≡ Done (length (write m))
+pub record Stands (m : Message) (a : Result ℕ Refusal) (after : List ℕ) : Type 0 where
+  pub bytes : a ≡ Ok (length (write m))
   pub read : message 0 after ≡ good (m, length (write m))
 
-pub promised : {m : Message} {b : List ℕ} {w : answers.Written × List ℕ} → Again m b w → (a : Written) (after : List ℕ) → told a after ≡ w → Stands m a after
+pub promised : {m : Message} {b : List ℕ} {w : answers.Written × List ℕ} → Again m b w → (a : Result ℕ Refusal) (after : List ℕ) → told a after ≡ w → Stands m a after
 promised {m} {b} g a after e =
-    let same = tells_apart (a, after) (Done (length (write m)), sets b 0 (write m)) (e ∙ sym g.written) in
-    record { bytes = ap (λ (x : Written × List ℕ). x.0) same; read = ap (λ (x : Written × List ℕ). message 0 x.1) same ∙ g.read }
+    let same = tells_apart (a, after) (Ok (length (write m)), sets b 0 (write m)) (e ∙ sym g.written) in
+    record { bytes = ap (λ (x : Result ℕ Refusal × List ℕ). x.0) same; read = ap (λ (x : Result ℕ Refusal × List ℕ). message 0 x.1) same ∙ g.read }
 
 -- and the buffer, cleaned again, gives the same bytes
 pub cleaned-twice : (s b c : List ℕ) → Bytes s → Bytes b → length s ≤ 65536 → clean_form s ≡ good c → length c ≤ length b → clean_form (sets b 0 c) ≡ good c

@@ -1,15 +1,11 @@
 -- What the answers and the writer's arguments stand for.
-use Rattle.std.specs.Prelude.{ℕ, List}
+use Rattle.std.specs.Prelude.{ℕ, List, Result, Ok, Err}
 use Rattle.rules.specs.Writer.{Draft}
 use Rattle.rules.specs.Buffer as answers
-use Rattle.refusal.specs.Numbers.{number_of, refused}
-use Rattle.rules.specs.Outcome.{Outcome, good}
-use Rattle.compose.specs.declared.Size.{Size}
-use Rattle.compose.specs.declared.Size.TheVariants as size
+use Rattle.refusal.specs.Numbers.{number_of}
+use Rattle.refusal.specs.declared.Refusal.{Refusal}
 use Rattle.message.specs.declared.Header.{Header}
 use Rattle.compose.specs.declared.Record.{Record}
-use Rattle.compose.specs.declared.Written.{Written}
-use Rattle.compose.specs.declared.Written.TheVariants.{Done, Refused}
 
 -- the draft of a record, an option run and a run of packages
 abbrev pub draft_of : Record → List ℕ → List ℕ → Draft
@@ -28,15 +24,10 @@ abbrev pub record_by : Header → Record
 record_by h = record { flags = h.flags; id = h.id; sequence = h.sequence; seconds = h.seconds; nanos = h.nanos }
 
 -- an answer's number, place and bytes written
-abbrev pub numbers : Written → answers.Written
-numbers (Done n) = record { number = 0; place = 0; bytes = n }
-numbers (Refused x) = answers.unwritten (number_of x.why) x.place
+abbrev pub numbers : Result ℕ Refusal → answers.Written
+numbers (Ok n) = record { number = 0; place = 0; bytes = n }
+numbers (Err x) = answers.unwritten (number_of x.why) x.place
 
 -- with the buffer after it
-abbrev pub told : Written → List ℕ → answers.Written × List ℕ
+abbrev pub told : Result ℕ Refusal → List ℕ → answers.Written × List ℕ
 told a b = (numbers a, b)
-
--- what is measured
-abbrev pub told_size : Size → Outcome ℕ
-told_size (size.Needs n) = good n
-told_size (size.Refused x) = refused x

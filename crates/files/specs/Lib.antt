@@ -1,2 +1,2 @@
 -- What an answer of `files` tells.
-pub mod Filled
+pub mod Opened

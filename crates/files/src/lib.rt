@@ -2,11 +2,13 @@
 // not taken for the end. What fails is said on standard error.
 #![tactic(auto)]
 
-ghost use Rattle.std.specs.Prelude.{◌^◌, ◌≤◌};
-ghost use Rattle.files.specs.Filled.{within, failed, below, opened};
+ghost use Rattle.std.specs.Prelude.{◌^◌, ◌≤◌, IfOk, IsErr};
+ghost use Rattle.std.specs.Io.{WritesAtMost};
+ghost use Rattle.files.specs.Opened.{is_open, opened};
 
 use std::env::{Env, FillError};
 use std::fs::File;
+use std::io;
 use std::io::{Error, ErrorKind, Read, Seek, SeekFrom};
 use std::os::fd::AsRawFd;
 
@@ -19,87 +21,57 @@ const NO_TEXT: i32 = 84;
 
 const BAD_DESCRIPTOR: i32 = 9;
 
-// What was read of a file: so many bytes, at the start of the buffer; or a read failed, and why.
-#[derive(Drop)]
-pub enum Filled {
-    Bytes(usize),
-    Failed(Error),
-}
+// A proved loop has to end: these are more turns than any file takes.
+const TURNS: usize = 1_000_000_000_000;
 
-// Fills a buffer from a file, up to the file's end. Of a file std knows no bytes that are still to come, so no promise says what it holds.
-pub fn fill<R: Read>(file: &mut R, buf: &mut [u8]) -> Filled
-    ensures { within result buf.new }
+// Fills a buffer from a file, up to the file's end, and counts the bytes. Of a file std knows no bytes that are still to come, so no promise says what it holds.
+pub fn fill<R: Read>(file: &mut R, buf: &mut [u8]) -> io::Result<usize>
+    ensures { WritesAtMost result buf.new }
 {
     let mut at = 0;
     while at < buf.len() {
-        match file.read(&mut buf[at..]) {
-            Ok(n) => {
-                if n == 0 {
-                    return Filled::Bytes(at);
-                }
-                at += n;
-            }
-            Err(e) => {
-                return Filled::Failed(e);
-            }
+        let n = file.read(&mut buf[at..])?;
+        if n == 0 {
+            return Ok(at);
         }
+        at += n;
     }
-    Filled::Bytes(at)
+    Ok(at)
 }
 
 // Fills a buffer from a place of a file on. What can't be sought, as a place behind those that the system numbers, is a read that fails.
-pub fn fill_from<R: Read + Seek>(file: &mut R, place: u64, buf: &mut [u8]) -> Filled
-    ensures inside { within result buf.new }
-    ensures sought { 2 ^ 63 ≤ place → failed result }
+pub fn fill_from<R: Read + Seek>(file: &mut R, place: u64, buf: &mut [u8]) -> io::Result<usize>
+    ensures inside { WritesAtMost result buf.new }
+    ensures sought { 2 ^ 63 ≤ place → IsErr result }
 {
     if 9223372036854775807 < place {
-        return Filled::Failed(Error::from(ErrorKind::InvalidInput));
+        return Err(Error::from(ErrorKind::InvalidInput));
     }
-    match file.seek(SeekFrom::Start(place)) {
-        Ok(_) => fill(file, buf),
-        Err(e) => Filled::Failed(e),
-    }
+    file.seek(SeekFrom::Start(place))?;
+    fill(file, buf)
 }
 
 // How many bytes one read takes.
-fn skip_some<R: Read>(file: &mut R) -> Filled
-    ensures { below result 4096 }
+fn skip_some<R: Read>(file: &mut R) -> io::Result<usize>
+    ensures { IfOk result (λ n. n ≤ 4096) }
 {
     let mut buf = [0u8; 4096];
-    match file.read(&mut buf) {
-        Ok(n) => Filled::Bytes(n),
-        Err(e) => Filled::Failed(e),
-    }
+    file.read(&mut buf)
 }
 
-// How many bytes a file still has. A proved loop has to end: the turns are more than any file takes.
-pub fn rest_of<R: Read>(file: &mut R) -> Filled
-    ensures { below result 4096000000000000 }
+// How many bytes a file still has.
+pub fn rest_of<R: Read>(file: &mut R) -> io::Result<usize>
+    ensures { IfOk result (λ n. n ≤ 4096000000000000) }
 {
     let mut total = 0;
-    let mut turns: usize = 1_000_000_000_000;
-    while turns > 0 {
-        match skip_some(file) {
-            Filled::Failed(why) => {
-                return Filled::Failed(why);
-            }
-            Filled::Bytes(k) => {
-                if k == 0 {
-                    return Filled::Bytes(total);
-                }
-                total += k;
-            }
+    for _ in 0..TURNS {
+        let n = skip_some(file)?;
+        if n == 0 {
+            break;
         }
-        turns -= 1;
+        total += n;
     }
-    Filled::Bytes(total)
-}
-
-// A file that is open for reading; or it can't be opened.
-#[derive(Drop)]
-pub enum Opened {
-    File(File),
-    Closed,
+    Ok(total)
 }
 
 // The text of an error without the system's number for it.
@@ -141,32 +113,36 @@ fn is_given(rt: &HostRuntime, i: usize) -> bool {
     !matches!(rt.arg(i, &mut buf), Err(FillError::NotPresent))
 }
 
-// Opens the file of this name, or says why it can't be.
-fn open(rt: &HostRuntime, name: &[u8]) -> Opened
-    ensures { opened result }
+// Opens the file of this name.
+fn open_named(rt: &HostRuntime, name: &[u8]) -> io::Result<File>
+    ensures { IfOk result is_open }
 {
     let Ok(path) = std::str::from_utf8(name) else {
-        fail(rt, name, Error::from_raw_os_error(NO_TEXT));
-        return Opened::Closed;
+        return Err(Error::from_raw_os_error(NO_TEXT));
     };
-    match File::open(rt, path) {
-        Ok(file) => {
-            // An open file's descriptor is not negative, which no clause of std says.
-            if file.as_raw_fd() < 0 {
-                fail(rt, name, Error::from_raw_os_error(BAD_DESCRIPTOR));
-                return Opened::Closed;
-            }
-            Opened::File(file)
-        }
+    let file = File::open(rt, path)?;
+    // An open file's descriptor is not negative, which no clause of std says.
+    if file.as_raw_fd() < 0 {
+        return Err(Error::from_raw_os_error(BAD_DESCRIPTOR));
+    }
+    Ok(file)
+}
+
+// The same, or says why it can't be opened.
+fn open(rt: &HostRuntime, name: &[u8]) -> Option<File>
+    ensures { opened result }
+{
+    match open_named(rt, name) {
+        Ok(file) => Some(file),
         Err(e) => {
             fail(rt, name, e);
-            Opened::Closed
+            None
         }
     }
 }
 
 // Opens the file that argument i names, or says why it can't be.
-pub fn open_arg(rt: &HostRuntime, i: usize) -> Opened
+pub fn open_arg(rt: &HostRuntime, i: usize) -> Option<File>
     ensures { opened result }
 {
     let mut path = [0u8; 4096];
@@ -178,7 +154,7 @@ pub fn open_arg(rt: &HostRuntime, i: usize) -> Opened
                 FillError::TooLong => TOO_LONG,
             };
             fail(rt, b"file name", Error::from_raw_os_error(number));
-            Opened::Closed
+            None
         }
     }
 }

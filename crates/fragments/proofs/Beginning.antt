@@ -2,9 +2,8 @@
 use Prim.Native.Nat.{ℕ, suc, ◌+◌, ◌-◌, ◌*◌, ◌/◌, ◌%◌, ◌≤◌, ◌<◌, min}
 use mathlib.Core.Path.{◌≡◌, refl, sym, ap, ◌∙◌}
 use mathlib.Core.List.{List, ◌∷◌, ◌++◌, map, append_assoc}
-use native.Mathlib.Nat.{div-div-eq-div-mul, suc-mul, mul-le-mul_right, div-add-mod', mod-lt}
+use native.Mathlib.Nat.{div-div-eq-div-mul, suc-mul, mul-le-mul_right}
 use native.Mathlib.Omega.{arith}
-use borrow.Author.Tests.{lt-ltb, le-ltb}
 use lib.ListN.{length, take, drop, length-append, length-drop}
 use lib.Seq.{sets, sets-eq, length-sets, take-append-le, drop-append-le, take-append_seam, drop-append_seam, length-take-le, take_all, drop-drop, take_at, drop_at}
 use borrow.Rule.Slice.PartMut.{put_mid}
@@ -26,20 +25,6 @@ use Rattle.fragments.proofs.Stores.{clean-length}
 use Rattle.fragments.proofs.Distributing.{chunk, chunk-length, chunk-is, turned, later-length, later-count, next-parts, parts-joined}
 
 -- ---- small ones
-
-pub bits_middle : (a n : ℕ) → a < n → 2 ≡ bits_at a n
-unfolding bits_at
-bits_middle a n l = rw (lt-ltb a n l, bits_at)
-
-pub bits-last : (a n : ℕ) → n ≤ a → 3 ≡ bits_at a n
-unfolding bits_at
-bits-last a n l = rw (le-ltb a n l, bits_at)
-
-pub parts-count : (n size : ℕ) → 1 ≤ size → 1 ≤ n → (n ≤ (n + size - 1) / size * size) × ((n + size - 1) / size * size < n + size)
-parts-count n size h l =
-    let e = div-add-mod' (n + size - 1) size in
-    let m : (n + size - 1) % size < size = mod-lt (n + size - 1) h in
-    (omega arith, omega arith)
 
 -- only one number of parts is right
 pub one-count : (n size a b : ℕ) → n ≤ a * size → a * size < n + size → n ≤ b * size → b * size < n + size → a ≤ b

@@ -20,7 +20,8 @@ use Rattle.rules.specs.Claims.{Careful, TellsApart}
 use Rattle.rules.proofs.Apart.{beside}
 use Rattle.refusal.proofs.Numbers.{number_positive, same_refusal}
 use Rattle.fragments.specs.declared.Fragmented.{Fragmented}
-use Rattle.fragments.specs.declared.Fragmented.TheVariants.{Done, Refused}
+use Rattle.refusal.specs.declared.Refusal.{Refusal}
+use Rattle.std.specs.Prelude.{Result, Ok, Err}
 use Rattle.fragments.specs.Told.{cut_numbers, told_cut}
 use Rattle.rules.proofs.Outcomes.{pass, halt, step, stop, passed, stepped, good_inj, good≢bad}
 use Rattle.rules.proofs.Numbers.{bytes-nil}
@@ -204,10 +205,10 @@ worked_joins = hand.worked_joins
 -- ---- two answers of `cut`, each with the buffer after it, that are told alike are the same: its promise allows one outcome alone (that of `join` is compose's `tells_apart`)
 
 same_cut : TellsApart cut_numbers
-same_cut (Done m k) (Done n l) e = ap₂ Done (ap (λ (r : CutAnswer). r.bytes) e) (ap (λ (r : CutAnswer). r.fragments) e)
-same_cut (Done m k) (Refused x) e = absurd (number_positive x.why (sym (ap (λ (r : CutAnswer). r.number) e)))
-same_cut (Refused x) (Done n l) e = absurd (number_positive x.why (ap (λ (r : CutAnswer). r.number) e))
-same_cut (Refused x) (Refused y) e = ap Refused (same_refusal x y (ap (λ (r : CutAnswer). r.number) e) (ap (λ (r : CutAnswer). r.place) e))
+same_cut (Ok f) (Ok g) e = ap₂ (λ (n k : ℕ). Ok (record { bytes = n; fragments = k })) (ap (λ (r : CutAnswer). r.bytes) e) (ap (λ (r : CutAnswer). r.fragments) e)
+same_cut (Ok f) (Err x) e = absurd (number_positive x.why (sym (ap (λ (r : CutAnswer). r.number) e)))
+same_cut (Err x) (Ok f) e = absurd (number_positive x.why (ap (λ (r : CutAnswer). r.number) e))
+same_cut (Err x) (Err y) e = ap Err (same_refusal x y (ap (λ (r : CutAnswer). r.number) e) (ap (λ (r : CutAnswer). r.place) e))
 
-pub tells_apart : TellsApart (λ (x : Fragmented × List ℕ). told_cut x.0 x.1)
+pub tells_apart : TellsApart (λ (x : Result Fragmented Refusal × List ℕ). told_cut x.0 x.1)
 tells_apart = beside cut_numbers same_cut

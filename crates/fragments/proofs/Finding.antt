@@ -6,7 +6,7 @@ use mathlib.Core.List.{List, ◌∷◌, ◌++◌}
 use mathlib.Core.Option.{none}
 use native.Mathlib.Nat.{add-zero, add_assoc}
 use native.Mathlib.Omega.{arith}
-use borrow.Author.Tests.{ne_eqb, lt-ltb, le-ltb}
+use borrow.Author.Tests.{ne_eqb}
 use lib.ListN.{length, take, drop, length-append, length-drop, drop_of_length-le, get_or-append}
 use lib.Seq.{drop-append_seam, drop-drop, get_or-drop}
 use Rattle.rules.specs.Outcome.{good, bad, OPTION}
@@ -128,13 +128,3 @@ place_clear (more {c = c} {cs = cs} {s = o} h r) p l = go (is_offset c) refl (λ
     go false t again =
         let e : offset_place (c ∷ cs) ≡ length c + offset_place cs = rw (t, offset_place) in
         pass _ _ _ _ t (again (omega (arith, length-append c o)))
-
--- ---- the size of an option
-
-pub one_byte : (o : List ℕ) {k : ℕ} → k ≡ at o 0 → k < 0x80 → 1 ≡ option_size o
-unfolding option_size
-one_byte o e l = rw (lt-ltb (at o 0) 0x80 (omega arith), option_size)
-
-pub by_length : (o : List ℕ) {k m n : ℕ} → k ≡ at o 0 → 0x80 ≤ k → m ≡ at o 1 → n ≡ m → n ≡ option_size o
-unfolding option_size
-by_length o e l f g = rw (le-ltb (at o 0) 0x80 (omega arith), option_size) (g ∙ f)

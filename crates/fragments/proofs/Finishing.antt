@@ -1,4 +1,6 @@
 -- What joining answers, by what was gathered.
+use lib.Dec.{ltb}
+use Rattle.std.specs.Int.{from_bool}
 use Prim.Native.Nat.{ℕ, suc, ◌+◌, ◌-◌, ◌*◌, ◌/◌, ◌%◌, ◌≤◌, ◌<◌}
 use mathlib.Core.Path.{◌≡◌, refl, sym, ap, ◌∙◌}
 use mathlib.Core.Bool.{Bool, true, false}
@@ -244,13 +246,13 @@ any-length (x ∷ q) = sym (rw (lt-ltb 0 (suc (length q)) (omega arith), one_if)
 
 -- ---- small ones
 
-pub one-some : (n : ℕ) → 0 < n → 1 ≡ one_if n
+pub one-is : (n : ℕ) → from_bool (ltb 0 n) ≡ one_if n
 unfolding one_if
-one-some n h = rw (lt-ltb 0 n h, one_if)
-
-pub one_none : (n : ℕ) → n ≤ 0 → 0 ≡ one_if n
-unfolding one_if
-one_none n h = rw (le-ltb 0 n h, one_if)
+one-is n = go (ltb 0 n)
+  where
+    go : (b : Bool) → from_bool b ≡ elim b [ true ↦ 1 | false ↦ 0 ]
+    go true = refl
+    go false = refl
 
 pub kept_whole : (bits : ℕ) (run : List ℕ) → bits ≡ 0 → run ≡ kept_by bits run
 unfolding kept_by

@@ -1,13 +1,13 @@
 -- The fragments read one behind the other: what the loop keeps.
 use Prim.Native.Nat.{ℕ, ◌+◌, ◌-◌, ◌*◌, ◌%◌, ◌≤◌, ◌<◌}
 use mathlib.Core.Path.{◌≡◌, refl, sym, ap, subst, ◌∙◌}
-use mathlib.Core.Logic.{◌⊎◌, inl, inr, ⊎_elim}
+use mathlib.Core.Logic.{⊎_elim}
 use mathlib.Core.Bool.{Bool, true, false, not, ◌&&◌, ◌||◌, false≢true}
 use mathlib.Core.List.{List, [], ◌∷◌, ◌++◌, append-nil, append_assoc}
 use mathlib.Core.Option.{none, some}
 use native.Mathlib.Nat.{zero-add, add_assoc}
 use native.Mathlib.Omega.{arith}
-use borrow.Author.Tests.{eqb-true, eq-eqb, ne_eqb, not-true, not-false}
+use borrow.Author.Tests.{eqb-true, not-true, not-false}
 use lib.Dec.{eqb}
 use lib.ListN.{length, drop, length-append, length-drop, length-take, drop_of_length-le}
 use lib.Seq.{drop-drop}
@@ -19,7 +19,7 @@ use Rattle.rules.proofs.Outcomes.{pass, halt, step, stop, stepped, passed, came_
 use Rattle.rules.proofs.Run.{run_ends}
 use Rattle.rules.proofs.Numbers.{bytes_drop}
 use Rattle.rules.proofs.Loops.{◌++>◌, onward}
-use Rattle.fragments.specs.Fragment.{WHOLE, FIRST, MIDDLE, other_bits, Fragment, options_of, offset_in, offset_of, fragment_of, fragment, payloads_of, next_number}
+use Rattle.fragments.specs.Fragment.{WHOLE, FIRST, MIDDLE, other_bits, Fragment, offset_of, fragment_of, fragment, payloads_of, next_number}
 use Rattle.fragments.specs.Joining.{says_offset, begins, goesOn, behind_offset, follows, in_place, complete, fragments_from}
 use Rattle.fragments.specs.declared.Passed.{Passed}
 use Rattle.fragments.specs.Stored.{WholeOptions, scan, starts, header_at, fits_behind, begins_by, next_fragment, gathered}
@@ -249,20 +249,16 @@ module _ (s : List ℕ) (h : Head) (i last q o : ℕ) (st : Passed) (w : Gatheri
   at-end : fragments_from (some w.prev) 0 i (drop i s) ≡ fragments_from (some w.prev) 0 i []
   at-end = rw (drop_of_length-le s l)
 
-  pub last_missing : {n : ℕ} → (last ≡ FIRST) ⊎ (last ≡ MIDDLE) → n ≡ length s → bad GAP n ≡ gathered s
+  pub last_missing : {n : ℕ} → (eqb last FIRST || eqb last MIDDLE) ≡ true → n ≡ length s → bad GAP n ≡ gathered s
   unfolding gathered ◌++>◌ complete goesOn
   last_missing e z =
       let y : i ≡ length s = omega (arith, w.inside) in
-      sym (stop _ _ (w.same ∙ rw (at-end, from_missing (some w.prev) i (rw w.bits (missing e)), z, y)))
-    where
-      missing : (last ≡ FIRST) ⊎ (last ≡ MIDDLE) → not (eqb last FIRST || eqb last MIDDLE) ≡ false
-      missing (inl a) = rw a
-      missing (inr a) = rw a
+      sym (stop _ _ (w.same ∙ rw (at-end, from_missing (some w.prev) i (rw (w.bits, e)), z, y)))
 
-  pub all_there : (last ≡ FIRST → ⊥) → (last ≡ MIDDLE → ⊥) → good (o, st.state, st.packages) ≡ gathered s
+  pub all_there : (eqb last FIRST || eqb last MIDDLE) ≡ false → good (o, st.state, st.packages) ≡ gathered s
   unfolding gathered ◌++>◌ complete goesOn
-  all_there a b =
-      let e : fragments_from none 0 0 s ≡ good (w.first ∷ w.more) = w.same ∙ rw (at-end, from_end (some w.prev) i (rw (w.bits, ne_eqb last FIRST a, ne_eqb last MIDDLE b)), append-nil) in
+  all_there a =
+      let e : fragments_from none 0 0 s ≡ good (w.first ∷ w.more) = w.same ∙ rw (at-end, from_end (some w.prev) i (rw (w.bits, a)), append-nil) in
       sym (step _ _ e (rw (w.total, w.state, w.packages)))
 
 none_missing : complete none ≡ false
@@ -361,16 +357,3 @@ module _ (s : List ℕ) (g : Head) (n : ℕ) (w : Headed s 0 g n) {a e : ℕ} (x
 
   pub begun_by : {st : Passed} {q : ℕ} → begins_by g (part 24 (24 + n) s) ≡ true → st.state ≡ scan 0 (part a e s) → st.packages ≡ starts 0 (part a e s) → q ≡ next_number g.sequence → Gathering s g e (fragment_bits g.flags) q (e - a) st
   begun_by t f m z = rw (x, y) (first_begun s g n w t (f ∙ rw (x, y)) (m ∙ rw (x, y)) z)
-
-module _ (g : Head) (run : List ℕ) where
-  pub begins-whole : fragment_bits g.flags ≡ 0 → true ≡ begins_by g run
-  unfolding begins_by
-  begins-whole e = rw (eq-eqb (fragment_bits g.flags) WHOLE e)
-
-  pub begins-first : {x : Bool} → fragment_bits g.flags ≡ 1 → x ≡ says_offset (offset_in (options_of run)) 0 → x ≡ begins_by g run
-  unfolding begins_by
-  begins-first e f = rw (ne_eqb (fragment_bits g.flags) WHOLE (λ z. omega arith), eq-eqb (fragment_bits g.flags) FIRST e) f
-
-  pub begins_not : (fragment_bits g.flags ≡ 0 → ⊥) → (fragment_bits g.flags ≡ 1 → ⊥) → false ≡ begins_by g run
-  unfolding begins_by
-  begins_not a b = rw (ne_eqb (fragment_bits g.flags) WHOLE a, ne_eqb (fragment_bits g.flags) FIRST b)

@@ -1,61 +1,27 @@
--- The steps of joining: the state behind a word, the offset that a run says, and whether a fragment may stand where it stands.
-use Prim.Native.Nat.{ℕ, zero, suc, ◌+◌, ◌-◌, ◌*◌, ◌/◌, ◌%◌, ◌≤◌, ◌<◌, min}
+-- The steps of joining: the state behind the words of a run, and the offset that a run says.
+use Prim.Native.Nat.{ℕ, suc, ◌+◌, ◌-◌, ◌*◌, ◌/◌, ◌%◌, ◌≤◌, ◌<◌, min}
 use mathlib.Core.Path.{◌≡◌, refl, sym, ap, ◌∙◌}
-use mathlib.Core.Bool.{Bool, true, false, ◌&&◌, ◌||◌}
+use mathlib.Core.Bool.{Bool, true, false, ◌&&◌}
 use mathlib.Core.List.{List, ◌∷◌, ◌++◌}
 use mathlib.Core.Option.{none, some}
 use native.Mathlib.Nat.{add-zero, add_assoc}
 use native.Mathlib.Omega.{arith}
-use borrow.Author.Tests.{eq-eqb, ne_eqb, lt-ltb, le-ltb, eqb-true}
+use borrow.Author.Tests.{eqb-true}
 use lib.Dec.{ltb, eqb, leb}
 use lib.ListN.{length, take, drop, length-append, length-drop, drop_of_length-le, get_or-append}
 use lib.Seq.{drop-cons, drop-drop, drop-append-add}
-use Rattle.rules.specs.Bytes.{at, half, word, pad}
+use Rattle.rules.specs.Bytes.{at, half, word}
 use Rattle.rules.specs.Options.{length_allowed, option_size, option_fits}
-use Rattle.rules.specs.Message.{Head, fragment_bits}
 use Rattle.rules.proofs.Outcomes.{both}
 use Rattle.rules.proofs.Loops.{rest}
-use Rattle.fragments.specs.Fragment.{FIRST, MIDDLE, LAST, other_bits, options_of, is_offset, offset_in}
+use Rattle.fragments.specs.Fragment.{options_of, is_offset, offset_in}
 use Rattle.fragments.specs.Joining.{says_offset}
 use Rattle.fragments.specs.declared.Passed.{Passed}
-use Rattle.fragments.specs.Stored.{WholeOptions, offset_place, package_step, scan, package_start, starts, fits_behind}
+use Rattle.fragments.specs.Stored.{WholeOptions, offset_place, package_step, scan, package_start, starts}
 use Rattle.rules.specs.Items.{none, more}
 use Rattle.rules.specs.Options.{WholeOption}
 use Rattle.fragments.proofs.Options.{Run, made_of, opt_least}
 use Rattle.fragments.proofs.Scan.{skip-some}
-
--- ---- the state
-
-module _ (st l : ℕ) where
-  pub state-start : st ≡ 0 → 1 ≡ package_step st l
-  unfolding package_step
-  state-start e = rw (eq-eqb st 0 e, package_step)
-
-  pub state-bad : st ≡ 1 → l < 12 → 2 ≡ package_step st l
-  unfolding package_step
-  state-bad e h = rw (ne_eqb st 0 (λ z. omega arith), eq-eqb st 1 e, lt-ltb l 12 h, package_step)
-
-  pub state-size : {m : ℕ} → st ≡ 1 → 12 ≤ l → m ≡ pad l → m - 8 ≡ package_step st l
-  unfolding package_step
-  state-size e h q = rw (ne_eqb st 0 (λ z. omega arith), eq-eqb st 1 e, le-ltb l 12 h, package_step, q)
-
-  pub state-broken : st ≡ 2 → 2 ≡ package_step st l
-  unfolding package_step
-  state-broken e = rw (ne_eqb st 0 (λ z. omega arith), ne_eqb st 1 (λ z. omega arith), eq-eqb st 2 e, package_step)
-
-  pub state-on : (r : ℕ) → (st ≡ 0 → ⊥) → (st ≡ 1 → ⊥) → (st ≡ 2 → ⊥) → r ≡ st - 4 → r ≡ package_step st l
-  unfolding package_step
-  state-on r a b c e = rw (ne_eqb st 0 a, ne_eqb st 1 b, ne_eqb st 2 c, package_step) e
-
--- ---- how many packages have begun
-
-pub begun_here : (n st : ℕ) → st ≡ 0 → n + 1 ≡ n + package_start st
-unfolding package_start
-begun_here n st e = rw (eq-eqb st 0 e, package_start)
-
-pub begun_before : (n st : ℕ) → (st ≡ 0 → ⊥) → n ≡ n + package_start st
-unfolding package_start
-begun_before n st e = sym (rw (ne_eqb st 0 e, package_start) (add-zero n))
 
 -- ---- the words of a run
 
@@ -84,15 +50,15 @@ starts-here s st i l =
     let d : i + 4 ≡ suc (suc (suc (suc i))) = omega arith in
     rw (drop-cons s i 0 (omega arith), drop-cons s (suc i) 0 (omega arith), drop-cons s (suc (suc i)) 0 (omega arith), drop-cons s (suc (suc (suc i))) 0 (omega arith), a, d)
 
-pub scan-on : (s : List ℕ) (st₀ st : Passed) (i : ℕ) {h l : ℕ} {n : Passed} → length s % 4 ≡ 0 → Scanning s st₀ st i → i < length s → h ≡ half s i → l ≡ h
+pub scan-on : (s : List ℕ) (st₀ st : Passed) (i : ℕ) {l : ℕ} {n : Passed} → length s % 4 ≡ 0 → Scanning s st₀ st i → i < length s → l ≡ half s i
     → n.state ≡ package_step st.state l → n.packages ≡ st.packages + package_start st.state → n.state < 4294967296 → Scanning s st₀ n (i + 4)
-scan-on s st₀ st i {h} {l} {n} m w k e f g c z =
+scan-on s st₀ st i {l} {n} m w k e g c z =
     let here : i + 4 ≤ length s = omega (arith, w.words, w.inside) in
     record {
       inside = here;
       words = omega (arith, w.words);
-      same = w.same ∙ word-here s st.state i here ∙ rw (g, f, e);
-      packages = w.packages ∙ ap (λ (x : ℕ). st.packages + x) (starts-here s st.state i here) ∙ rw (g, f, e, c) (sym (add_assoc st.packages (package_start st.state) _));
+      same = w.same ∙ word-here s st.state i here ∙ rw (g, e);
+      packages = w.packages ∙ ap (λ (x : ℕ). st.packages + x) (starts-here s st.state i here) ∙ rw (g, e, c) (sym (add_assoc st.packages (package_start st.state) _));
       small = z;
     }
 
@@ -174,71 +140,10 @@ offset-none (more {c = c} {cs = cs} {s = o} h r) l = go (is_offset c) refl (λ z
         i ∙ again (omega (arith, length-append c o))
 
 module _ (run : List ℕ) (w : WholeOptions run) {p : ℕ} (e : p ≡ offset_place (options_of run)) where
-  pub says-it : (o : ℕ) {x y : ℕ} → p < length run → x ≡ word (take (length run - p) (drop p run)) 2 → y ≡ x → eqb y o ≡ says_offset (offset_in (options_of run)) o
-  says-it o {x} {y} l f g =
+  pub says-it : (o : ℕ) {x : ℕ} → p < length run → x ≡ word (take (length run - p) (drop p run)) 2 → eqb x o ≡ says_offset (offset_in (options_of run)) o
+  says-it o {x} l f =
       let i : offset_in (options_of run) ≡ some (word (drop p run) 2) = rw e (offset-there (made_of run w.run) (rw (← e) l)) in
-      rw (i, g, f, rest)
+      rw (i, f, rest)
 
   pub says_none : (o : ℕ) → length run ≤ p → false ≡ says_offset (offset_in (options_of run)) o
   says_none o l = rw (offset-none (made_of run w.run) (rw (← e) l))
-
--- ---- whether a fragment may stand where it stands
-
-going : (last : ℕ) → 1 ≤ last → last ≤ 2 → (eqb last FIRST || eqb last MIDDLE) ≡ true
-going zero h l = absurd (omega arith)
-going (suc zero) h l = refl
-going (suc (suc zero)) h l = refl
-going (suc (suc (suc n))) h l = absurd (omega arith)
-
-later : (b : ℕ) → 2 ≤ b → b < 4 → (eqb b MIDDLE || eqb b LAST) ≡ true
-later zero h l = absurd (omega arith)
-later (suc zero) h l = absurd (omega arith)
-later (suc (suc zero)) h l = refl
-later (suc (suc (suc zero))) h l = refl
-later (suc (suc (suc (suc n)))) h l = absurd (omega arith)
-
-module _ (h : Head) (last q o : ℕ) (g : Head) (run : List ℕ) where
-  pub not_first : last ≡ 0 → false ≡ fits_behind h last q o g run
-  unfolding fits_behind
-  not_first e = rw e
-
-  pub not_last : 2 < last → false ≡ fits_behind h last q o g run
-  unfolding fits_behind
-  not_last e = rw (ne_eqb last FIRST (λ z. omega arith), ne_eqb last MIDDLE (λ z. omega arith))
-
-  module _ (a : 1 ≤ last) (b : last ≤ 2) where
-    pub not_later : fragment_bits g.flags < 2 → false ≡ fits_behind h last q o g run
-    unfolding fits_behind
-    not_later e = rw (going last a b, ne_eqb (fragment_bits g.flags) MIDDLE (λ z. omega arith), ne_eqb (fragment_bits g.flags) LAST (λ z. omega arith))
-
-    module _ (c : 2 ≤ fragment_bits g.flags) where
-      bits-later : (eqb (fragment_bits g.flags) MIDDLE || eqb (fragment_bits g.flags) LAST) ≡ true
-      bits-later = later (fragment_bits g.flags) c (omega arith)
-
-      pub not_offset : says_offset (offset_in (options_of run)) o ≡ false → false ≡ fits_behind h last q o g run
-      unfolding fits_behind
-      not_offset e = rw (going last a b, bits-later, e)
-
-      module _ (d : says_offset (offset_in (options_of run)) o ≡ true) where
-        pub not_number : (g.sequence ≡ q → ⊥) → false ≡ fits_behind h last q o g run
-        unfolding fits_behind
-        not_number e = rw (going last a b, bits-later, d, ne_eqb g.sequence q e)
-
-        module _ (e : g.sequence ≡ q) where
-          pub not_id : (g.id ≡ h.id → ⊥) → false ≡ fits_behind h last q o g run
-          unfolding fits_behind
-          not_id f = rw (going last a b, bits-later, d, eq-eqb g.sequence q e, ne_eqb g.id h.id f)
-
-          module _ (f : g.id ≡ h.id) where
-            pub not_seconds : (g.seconds ≡ h.seconds → ⊥) → false ≡ fits_behind h last q o g run
-            unfolding fits_behind
-            not_seconds i = rw (going last a b, bits-later, d, eq-eqb g.sequence q e, eq-eqb g.id h.id f, ne_eqb g.seconds h.seconds i)
-
-            module _ (i : g.seconds ≡ h.seconds) where
-              pub not_nanos : (g.nanos ≡ h.nanos → ⊥) → false ≡ fits_behind h last q o g run
-              unfolding fits_behind
-              not_nanos j = rw (going last a b, bits-later, d, eq-eqb g.sequence q e, eq-eqb g.id h.id f, eq-eqb g.seconds h.seconds i, ne_eqb g.nanos h.nanos j)
-
-              pub by_flags : g.nanos ≡ h.nanos → eqb (other_bits g.flags) (other_bits h.flags) ≡ fits_behind h last q o g run
-              unfolding fits_behind
-              by_flags j = rw (going last a b, bits-later, d, eq-eqb g.sequence q e, eq-eqb g.id h.id f, eq-eqb g.seconds h.seconds i, eq-eqb g.nanos h.nanos j)

@@ -5,10 +5,11 @@ use mathlib.Core.Bool.{true}
 use mathlib.Core.List.{List, [], ◌∷◌, ◌++◌, map, append-nil, append_assoc}
 use native.Mathlib.Nat.{add-zero}
 use native.Mathlib.Omega.{arith}
-use lib.ListN.{length, take, drop, set, replicate, length-append, length-drop, length-replicate, drop_of_length-le}
+use lib.ListN.{length, take, drop, replicate, length-append, length-drop, length-replicate, drop_of_length-le}
 use lib.Seq.{sets, sets-eq, length-sets, take-append-add, length-take-le, take_all, drop-drop, drop_at, take_at, get_or-drop}
 use borrow.Rule.Slice.PartMut.{put_mid}
 use Rattle.rules.specs.Outcome.{good}
+use Rattle.std.specs.List.{copy_within}
 use Rattle.rules.specs.Bytes.{at, half, put16, put32, pad, padded, part, join}
 use Rattle.rules.specs.Packages.{piece, cut, package_fits, Piece}
 use Rattle.rules.specs.Clean.{clean_piece}
@@ -17,7 +18,6 @@ use Rattle.rules.proofs.Cut as Cut
 use Rattle.rules.proofs.Pieces.{length-padded}
 use Rattle.rules.proofs.Growing.{join-append, map-append}
 use Rattle.rules.proofs.Loops.{Doing, doing_start, doing_next, doing_end, sets-sets, drop-sets}
-use Rattle.wire.proofs.Stores.{part-more}
 use Rattle.compose.specs.declared.Record.{Record}
 use Rattle.compose.specs.Payload.{Cuts, header_of, flags_with, header_by}
 use Rattle.compose.proofs.Run.{cut_fits, rest-half}
@@ -78,15 +78,15 @@ module _ (c : List ℕ) (h : Piece c) where
       ∙ rw (t, m, d, append-nil) (simp append_assoc))
 
 -- the package at index i of a run, cleaned in a part that is lent
-pub cleaned-at : (s ys : List ℕ) (i : ℕ) {l m n : ℕ} → l ≡ half (take (length s - i) (drop i s)) 4 → m ≡ l → n ≡ pad m
+pub cleaned-at : (s ys : List ℕ) (i : ℕ) {l n : ℕ} → l ≡ half (take (length s - i) (drop i s)) 4 → n ≡ pad l
     → ys ≡ clean_piece (take (i + n - i) (drop i s)) → CleanedAt s i (put_mid i (i + n - i) s ys) (i + n)
-cleaned-at s ys i {l} {m} {n} e f g h =
+cleaned-at s ys i {l} {n} e g h =
     let k : n ≡ pad (half (drop i s) 4) = omega (arith, rest-half s i) in
     let z : i + n - i ≡ n = omega arith in
     record { end = omega arith; bytes = rw (z, h, z, drop-drop n i s) }
 
-pub piece-here : (s : List ℕ) (i : ℕ) {l m n : ℕ} → package_fits (drop i s) ≡ true → l ≡ half (take (length s - i) (drop i s)) 4 → m ≡ l → n ≡ pad m → Piece (take (i + n - i) (drop i s))
-piece-here s i {l} {m} {n} f e g h =
+pub piece-here : (s : List ℕ) (i : ℕ) {l n : ℕ} → package_fits (drop i s) ≡ true → l ≡ half (take (length s - i) (drop i s)) 4 → n ≡ pad l → Piece (take (i + n - i) (drop i s))
+piece-here s i {l} {n} f e h =
     let k : i + n - i ≡ pad (half (drop i s) 4) = omega (arith, rest-half s i) in
     rw k (Cut.piece_of_lem (drop i s) (Cut.fit (drop i s) f))
 
@@ -171,15 +171,11 @@ module _ (s : List ℕ) where
 
 -- ---- bytes moved down
 
-pub moved_more : (b : List ℕ) (to from i : ℕ) → to ≤ from → from + i < length b
-    → set (sets b to (part from (from + i) b)) (to + i) (at (sets b to (part from (from + i) b)) (from + i)) ≡ sets b to (part from (from + (i + 1)) b)
-moved_more b to from i h l =
-    let z : from + i - from ≡ i = omega arith in
-    let k : length (part from (from + i) b) ≡ i = rw z (length-take-le i (drop from b) (omega (arith, length-drop from b))) in
-    rw (at-sets (part from (from + i) b) b to (from + i) (omega arith)) (part-more b b to from i l)
-
-pub moved_none : (b : List ℕ) (to from : ℕ) → b ≡ sets b to (part from (from + 0) b)
-moved_none b to from = let z : from + 0 - from ≡ 0 = omega arith in rw z
+moved : (b : List ℕ) (to from n : ℕ) → to ≤ from → from + n ≤ length b → copy_within b from (from + n) to ≡ sets b to (part from (from + n) b)
+moved b to from n h l =
+    let z : from + n - from ≡ n = omega arith in
+    let k : length (take n (drop from b)) ≡ n = length-take-le n (drop from b) (omega (arith, length-drop from b)) in
+    sym (rw z (rw k at (sets-eq (take n (drop from b)) b to (omega (arith, k)))))
 
 -- ---- a fragment, put together
 
@@ -198,8 +194,8 @@ front_put b r w f z {b₁} {b₂} l n e h =
     let e' : b₁ ≡ sets b 0 (header_of w (flags_with r.flags (z - (24 + w * 4))) r.id.0 r.sequence z r.seconds r.nanos) = e ∙ rw (x, y) in
     flags-over b w (flags_with r.flags (z - (24 + w * 4))) f r.id.0 r.sequence z r.seconds r.nanos n e' h
 
-pub offset-stored : (b : List ℕ) (i o : ℕ) {b₁ b₂ : List ℕ} {x : ℕ} → x ≡ o → b₁ ≡ sets b i (put16 0x8606 []) → b₂ ≡ sets b₁ (i + 2) (put32 x []) → b₂ ≡ sets b i (offset_option o)
-offset-stored b i o e f g = g ∙ rw (f, e) (sets-sets (put16 0x8606 []) (put32 o []) b i)
+pub offset-stored : (b : List ℕ) (i o : ℕ) {b₁ b₂ : List ℕ} → b₁ ≡ sets b i (put16 0x8606 []) → b₂ ≡ sets b₁ (i + 2) (put32 o []) → b₂ ≡ sets b i (offset_option o)
+offset-stored b i o f g = g ∙ rw f (sets-sets (put16 0x8606 []) (put32 o []) b i)
 
 -- header and options are stored before the payload, which stands behind them and is moved down
 module _ (b : List ℕ) (front from n : ℕ) (xs : List ℕ) (long : length xs ≡ front) (behind : front ≤ from) (inside : from + n ≤ length b) where
@@ -208,14 +204,15 @@ module _ (b : List ℕ) (front from n : ℕ) (xs : List ℕ) (long : length xs �
       let z : from + n - from ≡ n = omega arith in
       rw z (length-take-le n (drop from b) (omega (arith, length-drop from b)))
 
-  pub payload-stored : {b₁ b₂ : List ℕ} → b₁ ≡ sets b 0 xs → b₂ ≡ sets b₁ front (part from (from + n) b₁) → b₂ ≡ sets b 0 (xs ++ part from (from + n) b)
+  pub payload-stored : {b₁ b₂ : List ℕ} → b₁ ≡ sets b 0 xs → b₂ ≡ copy_within b₁ from (from + n) front → b₂ ≡ sets b 0 (xs ++ part from (from + n) b)
   payload-stored {b₁} {b₂} e f =
       let d : drop from b₁ ≡ drop from b = ap (drop from) e ∙ drop-sets xs b 0 from (omega arith) in
-      f ∙ rw (d, e) (glue xs (part from (from + n) b) b 0 front (omega arith))
+      let l : length b₁ ≡ length b = ap length e ∙ length-sets b 0 xs in
+      f ∙ moved b₁ front from n behind (omega (arith, l)) ∙ rw (d, e) (glue xs (part from (from + n) b) b 0 front (omega arith))
 
 module _ (b : List ℕ) (r : Record) (bits o from n : ℕ) (behind : 32 ≤ from) (inside : from + n ≤ length b) where
   pub later-stored : {b₁ b₂ b₃ b₄ : List ℕ} → b₁ ≡ sets b 0 (header_of 2 (r.flags + bits * 16) r.id.0 r.sequence (32 + n) r.seconds r.nanos)
-      → b₂ ≡ sets b₁ 24 (offset_option o) → b₃ ≡ sets b₂ 30 (put16 0 []) → b₄ ≡ sets b₃ 32 (part from (from + n) b₃)
+      → b₂ ≡ sets b₁ 24 (offset_option o) → b₃ ≡ sets b₂ 30 (put16 0 []) → b₄ ≡ copy_within b₃ from (from + n) 32
       → b₄ ≡ sets b 0 (fragment_bytes (fragment_by r bits (offset_option o) (part from (from + n) b)))
   unfolding fragment_bytes
   later-stored {b₁} {b₂} {b₃} {b₄} e f g h =
@@ -231,7 +228,7 @@ front_bytes r bits o q m n e f = rw (← e, ← f)
 pub first-stored : (b : List ℕ) (r : Record) (options : List ℕ) (from n : ℕ) {b₁ b₂ b₃ b₄ b₅ : List ℕ} {m : ℕ} → 24 + pad (length options + 6) ≤ from → from + n ≤ length b
     → m ≡ pad (length options + 6) → b₁ ≡ sets b 0 (header_of (m / 4) (r.flags + 16) r.id.0 r.sequence (24 + m + n) r.seconds r.nanos)
     → b₂ ≡ sets b₁ 24 (part 0 (0 + length options) options) → b₃ ≡ sets b₂ (24 + length options) (offset_option 0)
-    → b₄ ≡ sets b₃ (30 + length options) (replicate (m - (length options + 6)) 0) → b₅ ≡ sets b₄ (24 + m) (part from (from + n) b₄)
+    → b₄ ≡ sets b₃ (30 + length options) (replicate (m - (length options + 6)) 0) → b₅ ≡ copy_within b₄ from (from + n) (24 + m)
     → b₅ ≡ sets b 0 (fragment_bytes (fragment_by r 1 (options ++ offset_option 0) (part from (from + n) b)))
 first-stored b r options from n {b₁} {b₂} {b₃} {b₄} {b₅} {m} behind inside q e f g h i =
     let head : List ℕ = header_of (m / 4) (r.flags + 16) r.id.0 r.sequence (24 + m + n) r.seconds r.nanos in

@@ -2,52 +2,32 @@
 // packages are put at the end of the fragments' bytes, cleaned there, and moved down part by part; joined ones are cleaned where they stand.
 #![tactic(auto)]
 
-ghost use Rattle.std.specs.Prelude.{◌≡◌, true, ◌++◌, ◌+◌, ◌-◌, ◌*◌, ◌/◌, ◌%◌, ◌≤◌, ◌<◌, min, length, take, drop};
+ghost use Rattle.std.specs.Prelude.{◌≡◌, true, ◌&&◌, ◌||◌, eqb, ◌++◌, ◌+◌, ◌-◌, ◌*◌, ◌/◌, ◌%◌, ◌≤◌, ◌<◌, min, length, take, drop};
 ghost use Rattle.std.proofs.lemmas.List.Edits.{sets};
 ghost use Rattle.rules.specs.Bytes.{pad, part};
 ghost use Rattle.rules.specs.Options.{option_size};
 ghost use Rattle.rules.specs.Packages.{package_fits, cut, Piece};
+ghost use Rattle.rules.specs.Message.{fragment_bits};
 ghost use Rattle.rules.specs.Clean.{clean_piece, cleaner};
 ghost use Rattle.compose.specs.Payload.{Cuts, header_of};
-ghost use Rattle.fragments.specs.Fragment.{options_of, offset_option, fragment_bytes, bytes_of, next_number, FIRST, offset_in, without_offset};
+ghost use Rattle.fragments.specs.Fragment.{other_bits, MIDDLE, LAST, options_of, offset_option, fragment_bytes, bytes_of, next_number, FIRST, offset_in, without_offset};
 ghost use Rattle.fragments.specs.Cutting.{cutter};
 ghost use Rattle.fragments.specs.Stored.{WholeOptions, offset_place, CleanedAt, cleaned_of, fragment_by, numbered, bits_at, Movable, Cuttable, fragments_by, fragments_size, fragmented, one_piece, header_at, package_step, scan, package_start, starts, fits_behind, next_fragment, begins_by, Begun, gathered, kept_here, payloads_in, InOrder, kept_by, Storable, whole_by, one_if, Joinable};
-ghost use Rattle.fragments.specs.Told.{told_cut, told_step, told_gathered, refused_with, record_whole};
-ghost use Rattle.rules.specs.Outcome.{bad};
-ghost use Rattle.refusal.specs.Numbers.{GAP};
+ghost use Rattle.fragments.specs.Told.{told_cut, told_next, told_gathered, record_whole};
 ghost use Rattle.message.specs.Answers.{told_header, head_of_header};
 ghost use Rattle.fragments.specs.Joining.{says_offset, fragments_from, joiner};
 ghost use Rattle.compose.specs.Told.{told};
 ghost use Rattle.std.proofs.Math.Option.{none};
 
-use compose::{Record, Written};
-use message::{Header, HeaderRead, MessageRead};
-use refusal::{Refusal, Why};
+use compose::Record;
+use message::Header;
+use refusal::{Refusal, Why, refuse};
 
-// How many bytes were written and how many fragments they are, or why none were.
+// How many bytes were written, and how many fragments they are.
 #[derive(Clone, Copy)]
-pub enum Fragmented {
-    Done { bytes: usize, fragments: usize },
-    Refused(Refusal),
-}
-
-fn wide8(x: u8) -> usize
-    ensures { (result ≡ x) × (result < 256) }
-{
-    x as usize
-}
-
-fn wide16(x: u16) -> usize
-    ensures { (result ≡ x) × (result < 65536) }
-{
-    x as usize
-}
-
-fn narrow32(n: usize) -> u32
-    requires { n < 4294967296 }
-    ensures { result ≡ n }
-{
-    n as u32
+pub struct Fragmented {
+    pub bytes: usize,
+    pub fragments: usize,
 }
 
 // n rounded up to a multiple of 4.
@@ -58,30 +38,15 @@ fn round_up(n: usize) -> usize
     (n + 3) / 4 * 4
 }
 
-fn least(a: usize, b: usize) -> usize
-    ensures { result ≡ min a b }
-{
-    if a < b { a } else { b }
-}
-
-// The sequence number behind q.
-fn next_number(q: u32) -> u32
-    ensures { result ≡ next_number q }
-{
-    if q < 4294967295 {
-        return q + 1;
-    }
-    0
-}
-
 // How many bytes the option at the start of o has.
+#[tactic(auto, unfolding(rules::specs::Options::option_size))]
 fn option_size(o: &[u8]) -> usize
     ensures { result ≡ option_size o.now }
 {
     if wire::byte_at(o, 0) < 0x80 {
         return 1;
     }
-    wide8(wire::byte_at(o, 1))
+    wire::byte_at(o, 1) as usize
 }
 
 // Where the first option 0x86 of an option run stands, or where the run ends.
@@ -105,7 +70,7 @@ fn clean_package(c: &mut [u8])
     ensures { c.new ≡ clean_piece c.old }
 {
     let n = c.len();
-    let l = wide16(wire::half_at(&c[0..], 4));
+    let l = wire::half_at(c, 4) as usize;
     wire::put_byte(c, 6, 0);
     wire::put_zeros(c, l, n - l);
 }
@@ -116,7 +81,7 @@ fn clean_next(run: &mut [u8], i: usize) -> usize
     requires i_in_bounds { (i ≤ length run.old) × (length run.old ≤ 65536) }
     ensures { CleanedAt run.old i run.new result }
 {
-    let end = i + round_up(wide16(wire::half_at(&run[i..], 4)));
+    let end = i + round_up(wire::half_at(&run[i..], 4) as usize);
     clean_package(&mut run[i..end]);
     end
 }
@@ -130,18 +95,6 @@ fn clean_run(run: &mut [u8])
     let mut i = 0;
     while i < run.len() {
         i = clean_next(run, i);
-    }
-}
-
-// Moves n bytes down, from `from` to `to`.
-fn move_down(out: &mut [u8], to: usize, from: usize, n: usize)
-    requires { (to ≤ from) × (from + n ≤ length out.old) }
-    ensures { out.new ≡ sets out.old to (part from (from + n) out.old) }
-{
-    let mut i = 0;
-    while i < n {
-        out[to + i] = out[from + i];
-        i += 1;
     }
 }
 
@@ -161,7 +114,7 @@ fn put_offset(out: &mut [u8], at: usize, offset: usize)
     ensures { out.new ≡ sets out.old at (offset_option offset) }
 {
     wire::put_half(out, at, 0x8606);
-    wire::put_word(out, at + 2, narrow32(offset));
+    wire::put_word(out, at + 2, offset as u32);
 }
 
 // Stores a later fragment at the start of `out`; its n bytes of payload stand from `from` on.
@@ -173,7 +126,7 @@ fn put_later(out: &mut [u8], r: Record, bits: u8, offset: usize, from: usize, n:
     put_front(out, r, 2, r.flags + bits * 16, 32 + n);
     put_offset(out, 24, offset);
     wire::put_half(out, 30, 0);
-    move_down(out, 32, from, n);
+    out.copy_within(from..from + n, 32);
 }
 
 // Stores the first fragment at the start of `out`, 0x86 behind the original options; its n bytes of payload stand from `from` on.
@@ -188,10 +141,11 @@ fn put_first(out: &mut [u8], r: Record, options: &[u8], from: usize, n: usize)
     wire::put_part(out, 24, options, 0, k);
     put_offset(out, 24 + k, 0);
     wire::put_zeros(out, 30 + k, m - (k + 6));
-    move_down(out, 24 + m, from, n);
+    out.copy_within(from..from + n, 24 + m);
 }
 
 // The bits of a fragment that ends at a, where the last one ends at n.
+#[tactic(auto, unfolding(crate::specs::Stored::bits_at))]
 fn bits_at(a: usize, n: usize) -> u8
     ensures { (result ≡ bits_at a n) × (result < 4) }
 {
@@ -213,14 +167,7 @@ fn put_at(
     requires bits_bound { (bits < 4) × (offset < 4294967296) }
     ensures { out.new ≡ sets out.old at (fragment_bytes (fragment_by (numbered r q) bits (offset_option offset) (part from (from + n) out.old))) }
 {
-    let id = r.id;
-    let mine = Record {
-        flags: r.flags,
-        id,
-        sequence: q,
-        seconds: r.seconds,
-        nanos: r.nanos,
-    };
+    let mine = Record { sequence: q, ..r };
     put_later(&mut out[at..], mine, bits, offset, from - at, n);
 }
 
@@ -235,14 +182,6 @@ fn put_clean(out: &mut [u8], run: &[u8], n: usize)
     clean_run(&mut out[n - k..n]);
 }
 
-// How many parts of `size` bytes n bytes have, the last with what is left.
-fn parts_of(n: usize, size: usize) -> usize
-    requires { (1 ≤ size) × (size < n) × (n ≤ 65536) }
-    ensures { (n ≤ result * size) × (result * size < n + size) }
-{
-    (n + size - 1) / size
-}
-
 // Stores the fragments of a message, n bytes in all. The cleaned payload is put at their end first and then moved down, part by part.
 fn put_fragments(out: &mut [u8], r: Record, options: &[u8], packages: &[u8], size: usize, n: usize)
     requires cuttable { Cuttable r options.now packages.now size }
@@ -254,105 +193,92 @@ fn put_fragments(out: &mut [u8], r: Record, options: &[u8], packages: &[u8], siz
     put_first(out, r, options, base, size);
     let mut at = 24 + round_up(options.len() + 6) + size;
     let mut from = base + size;
-    let mut q = next_number(r.sequence);
+    let mut q = r.sequence.wrapping_add(1);
     while from < n {
-        let m = least(size, n - from);
+        let m = size.min(n - from);
         let bits = bits_at(from + m, n);
         put_at(out, r, q, bits, from - base, at, from, m);
         at += 32 + m;
         from += m;
-        q = next_number(q);
+        q = q.wrapping_add(1);
     }
 }
 
-fn refuse(why: Why, place: usize) -> Fragmented
-    ensures { result ≡ Fragmented.Refused (record { why = why; place = place }) }
-{
-    Fragmented::Refused(Refusal { why, place })
-}
-
 // The fragments of a message that was checked, stored where there is room for them.
-fn finish_cut(r: Record, options: &[u8], packages: &[u8], size: usize, out: &mut [u8]) -> Fragmented
+fn finish_cut(
+    r: Record,
+    options: &[u8],
+    packages: &[u8],
+    size: usize,
+    out: &mut [u8],
+) -> Result<Fragmented, Refusal>
     requires { Cuttable r options.now packages.now size }
     ensures { told_cut result out.new ≡ fragmented r options.now packages.now size out.old }
 {
-    let k = parts_of(packages.len(), size);
+    let k = packages.len().div_ceil(size);
     let n = 24 + round_up(options.len() + 6) + packages.len() + 32 * (k - 1);
     if out.len() < n {
         return refuse(Why::Room, n);
     }
     put_fragments(out, r, options, packages, size, n);
-    Fragmented::Done {
+    Ok(Fragmented {
         bytes: n,
         fragments: k,
-    }
+    })
 }
 
 // A message whose payload fits: its clean form.
-fn finish_whole(s: &[u8], out: &mut [u8]) -> Fragmented
+fn finish_whole(s: &[u8], out: &mut [u8]) -> Result<Fragmented, Refusal>
     ensures { told_cut result out.new ≡ one_piece (cleaner s.now out.old) }
 {
-    match compose::clean(s, out) {
-        Written::Refused(x) => Fragmented::Refused(x),
-        Written::Done { bytes } => Fragmented::Done {
-            bytes,
-            fragments: 1,
-        },
-    }
+    let bytes = compose::clean(s, out)?;
+    Ok(Fragmented {
+        bytes,
+        fragments: 1,
+    })
 }
 
 // Cuts the clean form of the first message of s into fragments with `size` bytes of payload each.
-pub fn cut(s: &[u8], size: usize, out: &mut [u8]) -> Fragmented
+pub fn cut(s: &[u8], size: usize, out: &mut [u8]) -> Result<Fragmented, Refusal>
     ensures { told_cut result out.new ≡ cutter size s.now out.old }
 {
-    match message::message_at(s, 0) {
-        MessageRead::Refused(x) => Fragmented::Refused(x),
-        MessageRead::Message(m) => {
-            let h = m.header;
-            let from = m.payload;
-            let next = m.next;
-            let end = 24 + h.run;
-            if size < 4 {
-                return refuse(Why::Length, 0);
-            }
-            if size % 4 != 0 {
-                return refuse(Why::Length, 0);
-            }
-            let at = find_offset(&s[24..end]);
-            if at < h.run {
-                return refuse(Why::Option, 24 + at);
-            }
-            if next - from <= size {
-                return finish_whole(s, out);
-            }
-            if 54 < h.run {
-                return refuse(Why::Option, 24);
-            }
-            finish_cut(
-                compose::record_of(h),
-                &s[24..end],
-                &s[from..next],
-                size,
-                out,
-            )
-        }
+    let m = message::message_at(s, 0)?;
+    let h = m.header;
+    let from = m.payload;
+    let next = m.next;
+    let end = 24 + h.run;
+    if size < 4 || size % 4 != 0 {
+        return refuse(Why::Length, 0);
     }
+    let at = find_offset(&s[24..end]);
+    if at < h.run {
+        return refuse(Why::Option, 24 + at);
+    }
+    if next - from <= size {
+        return finish_whole(s, out);
+    }
+    if 54 < h.run {
+        return refuse(Why::Option, 24);
+    }
+    finish_cut(
+        compose::record_of(h),
+        &s[24..end],
+        &s[from..next],
+        size,
+        out,
+    )
 }
 
 // ---- joining
 
 // The header of the fragment at place i, read with checks 1 to 7.
-fn header_at(s: &[u8], i: usize) -> HeaderRead
+fn header_at(s: &[u8], i: usize) -> Result<Header, Refusal>
     requires { (i ≤ length s.now) × (length s.now ≤ 65536) }
     ensures { told_header result ≡ header_at s.now i }
 {
     match message::read_header(&s[i..]) {
-        HeaderRead::Header(h) => HeaderRead::Header(h),
-        HeaderRead::Refused(x) => {
-            let why = x.why;
-            let place = i + x.place;
-            HeaderRead::Refused(Refusal { why, place })
-        }
+        Ok(h) => Ok(h),
+        Err(x) => refuse(x.why, i + x.place),
     }
 }
 
@@ -364,29 +290,22 @@ struct Passed {
 }
 
 // The state behind one word, which begins with l.
+#[tactic(auto, unfolding(crate::specs::Stored::package_step))]
 fn state_step(state: usize, l: usize) -> usize
     requires { (l < 65536) × (state < 4294967296) }
     ensures { (result ≡ package_step state l) × (result < 4294967296) }
 {
-    if state == 0 {
-        return 1;
+    match state {
+        0 => 1,
+        1 if l < 12 => 2,
+        1 => round_up(l) - 8,
+        2 => 2,
+        _ => state.saturating_sub(4),
     }
-    if state == 1 {
-        if l < 12 {
-            return 2;
-        }
-        return round_up(l) - 8;
-    }
-    if state == 2 {
-        return 2;
-    }
-    if state < 4 {
-        return 0;
-    }
-    state - 4
 }
 
 // One word more, which begins with l.
+#[tactic(auto, unfolding(crate::specs::Stored::package_start))]
 fn package_step(st: Passed, l: usize) -> Passed
     requires { (l < 65536) × (st.state < 4294967296) × (st.packages < 4294967296) }
     ensures { (result.state ≡ package_step st.state l) × (result.packages ≡ st.packages + package_start st.state) × (result.state < 4294967296) }
@@ -398,17 +317,14 @@ fn package_step(st: Passed, l: usize) -> Passed
             packages: st.packages + 1,
         };
     }
-    Passed {
-        state,
-        packages: st.packages,
-    }
+    Passed { state, ..st }
 }
 
 // How many of n bytes are left of a package whose words are passed: whole words, of which nothing is looked at.
 fn rest_in(state: usize, n: usize) -> usize
     ensures { result ≡ min (state / 4 * 4) n }
 {
-    least(state / 4 * 4, n)
+    (state / 4 * 4).min(n)
 }
 
 // n bytes less are left of it.
@@ -418,7 +334,7 @@ fn without(st: Passed, n: usize) -> Passed
 {
     Passed {
         state: st.state - n,
-        packages: st.packages,
+        ..st
     }
 }
 
@@ -435,7 +351,7 @@ fn scan_run(run: &[u8], start: Passed) -> Passed
             st = without(st, n);
             i += n;
         } else {
-            st = package_step(st, wide16(wire::half_at(run, i)));
+            st = package_step(st, wire::half_at(run, i) as usize);
             i += 4;
         }
     }
@@ -448,116 +364,112 @@ fn offset_is(run: &[u8], o: usize) -> bool
     ensures { result ≡ says_offset (offset_in (options_of run.now)) o }
 {
     let at = find_offset(run);
-    if at < run.len() {
-        return wide32(wire::word_at(&run[at..], 2)) == o;
-    }
-    false
+    at < run.len() && wire::word_at(&run[at..], 2) as usize == o
 }
 
-fn wide32(x: u32) -> usize
-    ensures { (result ≡ x) × (result < 4294967296) }
+// Flag bits 5-4: a whole message is 0, and the first, a middle and the last fragment of one are 1, 2 and 3.
+fn fragment_bits(flags: u8) -> u8
+    ensures { result ≡ fragment_bits flags }
 {
-    x as usize
+    flags / 16 % 4
+}
+
+// The other flags.
+fn other_bits(flags: u8) -> u8
+    ensures { result ≡ other_bits flags }
+{
+    flags / 64 * 64 + flags % 16
+}
+
+// Whether the last fragment is still to come behind one with these bits.
+fn goes_on(bits: u8) -> bool
+    ensures { result ≡ (eqb bits FIRST || eqb bits MIDDLE) }
+{
+    bits == 1 || bits == 2
+}
+
+// Whether a fragment with these bits stands behind another one.
+fn goes_behind(bits: u8) -> bool
+    ensures { result ≡ (eqb bits MIDDLE || eqb bits LAST) }
+{
+    bits == 2 || bits == 3
+}
+
+// Whether g has the id, time and other flags of h.
+fn same_message(g: Header, h: Header) -> bool
+    ensures { result ≡ (eqb g.id.0 h.id.0 && eqb g.seconds h.seconds && eqb g.nanos h.nanos && eqb (other_bits g.flags) (other_bits h.flags)) }
+{
+    g.id.0 == h.id.0
+        && g.seconds == h.seconds
+        && g.nanos == h.nanos
+        && other_bits(g.flags) == other_bits(h.flags)
 }
 
 // Whether the fragment with header g and this option run may stand behind one with bits `last`, where h is the first header, q the next number and o the next offset.
+#[tactic(auto, unfolding(crate::specs::Stored::fits_behind))]
 fn fits_behind(h: Header, last: u8, q: u32, o: usize, g: Header, run: &[u8]) -> bool
     requires { WholeOptions run.now }
     ensures { result ≡ fits_behind (head_of_header h) last q o (head_of_header g) run.now }
 {
-    if last == 0 {
-        return false;
-    }
-    if 2 < last {
-        return false;
-    }
-    if g.flags / 16 % 4 < 2 {
-        return false;
-    }
-    if !offset_is(run, o) {
-        return false;
-    }
-    if g.sequence != q {
-        return false;
-    }
-    let mine = g.id;
-    let first = h.id;
-    if mine.0 != first.0 {
-        return false;
-    }
-    if g.seconds != h.seconds {
-        return false;
-    }
-    if g.nanos != h.nanos {
-        return false;
-    }
-    g.flags / 64 * 64 + g.flags % 16 == h.flags / 64 * 64 + h.flags % 16
+    goes_on(last)
+        && goes_behind(fragment_bits(g.flags))
+        && offset_is(run, o)
+        && g.sequence == q
+        && same_message(g, h)
 }
 
-// Where the payload of the next fragment begins and ends and its bits, or why there is none.
+// Where the payload of the next fragment begins and ends, and its bits.
 #[derive(Clone, Copy)]
-enum Step {
-    Next { from: usize, to: usize, bits: u8 },
-    Refused(Refusal),
+struct Next {
+    from: usize,
+    to: usize,
+    bits: u8,
 }
 
-fn next_fragment(s: &[u8], i: usize, h: Header, last: u8, q: u32, o: usize) -> Step
+fn next_fragment(s: &[u8], i: usize, h: Header, last: u8, q: u32, o: usize) -> Result<Next, Refusal>
     requires { (i ≤ length s.now) × (length s.now ≤ 65536) }
-    ensures { told_step result ≡ next_fragment s.now i (head_of_header h) last q o }
+    ensures { told_next result ≡ next_fragment s.now i (head_of_header h) last q o }
 {
-    match header_at(s, i) {
-        HeaderRead::Refused(x) => Step::Refused(x),
-        HeaderRead::Header(g) => {
-            let a = i + 24;
-            let e = a + g.run;
-            let why = Why::Gap;
-            if !fits_behind(h, last, q, o, g, &s[a..e]) {
-                return Step::Refused(Refusal { why, place: i });
-            }
-            let from = i + (24 + 4 * wide8(g.words));
-            let to = i + wide32(g.length);
-            let bits = g.flags / 16 % 4;
-            Step::Next { from, to, bits }
-        }
+    let g = header_at(s, i)?;
+    let a = i + 24;
+    let e = a + g.run;
+    if !fits_behind(h, last, q, o, g, &s[a..e]) {
+        return refuse(Why::Gap, i);
     }
+    let from = i + (24 + 4 * g.words as usize);
+    let to = i + g.length as usize;
+    let bits = fragment_bits(g.flags);
+    Ok(Next { from, to, bits })
 }
 
 // Whether the fragment with header g and this option run may stand first.
+#[tactic(auto, unfolding(crate::specs::Stored::begins_by))]
 fn begins(g: Header, run: &[u8]) -> bool
     requires { WholeOptions run.now }
     ensures { result ≡ begins_by (head_of_header g) run.now }
 {
-    if g.flags / 16 % 4 == 0 {
-        return true;
+    match fragment_bits(g.flags) {
+        0 => true,
+        1 => offset_is(run, 0),
+        _ => false,
     }
-    if g.flags / 16 % 4 == 1 {
-        return offset_is(run, 0);
-    }
-    false
 }
 
-// How long the joined payload is and what was passed of it, or why the fragments are no whole set.
+// How long the joined payload is, and what was passed of it.
 #[derive(Clone, Copy)]
-enum Gathered {
-    All { payload: usize, passed: Passed },
-    Refused(Refusal),
-}
-
-fn gap(place: usize) -> Gathered
-    ensures { told_gathered result ≡ bad GAP place }
-{
-    let why = Why::Gap;
-    Gathered::Refused(Refusal { why, place })
+struct Gathered {
+    payload: usize,
+    passed: Passed,
 }
 
 // The fragments behind the first, whose header is h.
-fn follow(s: &[u8], h: Header) -> Gathered
+fn follow(s: &[u8], h: Header) -> Result<Gathered, Refusal>
     requires begun { Begun s.now (head_of_header h) h.run }
     requires s_len_bound { length s.now ≤ 65536 }
     ensures { told_gathered result ≡ gathered s.now }
 {
-    let start = 24 + 4 * wide8(h.words);
-    let mut i = wide32(h.length);
+    let start = 24 + 4 * h.words as usize;
+    let mut i = h.length as usize;
     let mut st = scan_run(
         &s[start..i],
         Passed {
@@ -566,55 +478,43 @@ fn follow(s: &[u8], h: Header) -> Gathered
         },
     );
     let mut o = i - start;
-    let mut last = h.flags / 16 % 4;
-    let mut q = next_number(h.sequence);
+    let mut last = fragment_bits(h.flags);
+    let mut q = h.sequence.wrapping_add(1);
     while i < s.len() {
-        match next_fragment(s, i, h, last, q, o) {
-            Step::Refused(x) => {
-                return Gathered::Refused(x);
-            }
-            Step::Next { from, to, bits } => {
-                st = scan_run(&s[from..to], st);
-                o += to - from;
-                last = bits;
-                q = next_number(q);
-                i = to;
-            }
-        }
+        let f = next_fragment(s, i, h, last, q, o)?;
+        st = scan_run(&s[f.from..f.to], st);
+        o += f.to - f.from;
+        last = f.bits;
+        q = q.wrapping_add(1);
+        i = f.to;
     }
-    if last == 1 {
-        return gap(s.len());
+    if goes_on(last) {
+        return refuse(Why::Gap, s.len());
     }
-    if last == 2 {
-        return gap(s.len());
-    }
-    Gathered::All {
+    Ok(Gathered {
         payload: o,
         passed: st,
-    }
+    })
 }
 
 // All the fragments read: checks 1 to 7 and GAP, one fragment behind the other.
-fn gather(s: &[u8]) -> Gathered
+fn gather(s: &[u8]) -> Result<Gathered, Refusal>
     requires { length s.now ≤ 65536 }
     ensures { told_gathered result ≡ gathered s.now }
 {
-    if s.len() == 0 {
-        return gap(0);
+    if s.is_empty() {
+        return refuse(Why::Gap, 0);
     }
-    match header_at(s, 0) {
-        HeaderRead::Refused(x) => Gathered::Refused(x),
-        HeaderRead::Header(h) => {
-            let end = 24 + h.run;
-            if !begins(h, &s[24..end]) {
-                return gap(0);
-            }
-            follow(s, h)
-        }
+    let h = header_at(s, 0)?;
+    let end = 24 + h.run;
+    if !begins(h, &s[24..end]) {
+        return refuse(Why::Gap, 0);
     }
+    follow(s, h)
 }
 
 // How many bytes of the option at the start of o are kept: none of 0x86.
+#[tactic(auto, unfolding(crate::specs::Stored::kept_here))]
 fn kept_here(o: &[u8]) -> usize
     ensures { result ≡ kept_here o.now }
 {
@@ -664,8 +564,8 @@ fn put_payloads(out: &mut [u8], at: usize, s: &[u8])
     let mut i = 0;
     let mut k = at;
     while i < s.len() {
-        let from = i + (24 + 4 * wide8(wire::byte_at(s, i) % 16));
-        let to = i + wide32(wire::word_at(&s[i..], 12));
+        let from = i + (24 + 4 * (wire::byte_at(s, i) % 16) as usize);
+        let to = i + wire::word_at(&s[i..], 12) as usize;
         wire::put_part(out, k, s, from, to - from);
         k += to - from;
         i = to;
@@ -711,69 +611,55 @@ fn put_joined(out: &mut [u8], r: Record, bits: u8, run: &[u8], s: &[u8], k: usiz
     clean_run(&mut out[24 + m..n]);
 }
 
-fn one_if(n: usize) -> u8
-    ensures { result ≡ one_if n }
-{
-    if 0 < n { 1 } else { 0 }
-}
-
 // The numbers of the joined message: those of the first header, bits 5-4 zero.
 fn joined_record(h: Header) -> Record
     ensures { result ≡ record_whole h }
 {
-    let id = h.id;
     Record {
-        flags: h.flags / 64 * 64 + h.flags % 16,
-        id,
-        sequence: h.sequence,
-        seconds: h.seconds,
-        nanos: h.nanos,
+        flags: other_bits(h.flags),
+        ..compose::record_of(h)
     }
-}
-
-fn refused(why: Why, place: usize) -> Written
-    ensures { result ≡ refused_with why place }
-{
-    Written::Refused(Refusal { why, place })
 }
 
 // The joined message, checked from check 9 on and stored where there is room for it. h is the first header.
-fn finish_join(s: &[u8], h: Header, payload: usize, passed: Passed, out: &mut [u8]) -> Written
+fn finish_join(
+    s: &[u8],
+    h: Header,
+    payload: usize,
+    passed: Passed,
+    out: &mut [u8],
+) -> Result<usize, Refusal>
     requires { Joinable s.now (head_of_header h) h.run payload passed }
     ensures { told result out.new ≡ joiner s.now out.old }
 {
-    if h.flags / 128 % 2 != one_if(payload) {
-        return refused(Why::Standard, 0);
+    if h.flags / 128 % 2 != u8::from(0 < payload) {
+        return refuse(Why::Standard, 0);
     }
     if passed.state != 0 {
-        return refused(Why::Package, 0);
+        return refuse(Why::Package, 0);
     }
     let end = 24 + h.run;
     if message::miscounts(&s[24..end], passed.packages) {
-        return refused(Why::Count, 0);
+        return refuse(Why::Count, 0);
     }
-    let bits = h.flags / 16 % 4;
+    let bits = fragment_bits(h.flags);
     let k = kept_of(bits, &s[24..end]);
     let n = 24 + round_up(k) + payload;
     if out.len() < n {
-        return refused(Why::Room, n);
+        return refuse(Why::Room, n);
     }
     put_joined(out, joined_record(h), bits, &s[24..end], s, k, n);
-    Written::Done { bytes: n }
+    Ok(n)
 }
 
 // Joins the fragments of s into a clean form, or cleans one whole message.
-pub fn join(s: &[u8], out: &mut [u8]) -> Written
+pub fn join(s: &[u8], out: &mut [u8]) -> Result<usize, Refusal>
     ensures { told result out.new ≡ joiner s.now out.old }
 {
     if 65536 < s.len() {
-        return refused(Why::Large, 65536);
+        return refuse(Why::Large, 65536);
     }
-    match gather(s) {
-        Gathered::Refused(x) => Written::Refused(x),
-        Gathered::All { payload, passed } => match header_at(s, 0) {
-            HeaderRead::Refused(x) => Written::Refused(x),
-            HeaderRead::Header(h) => finish_join(s, h, payload, passed, out),
-        },
-    }
+    let all = gather(s)?;
+    let h = header_at(s, 0)?;
+    finish_join(s, h, all.payload, all.passed, out)
 }

@@ -15,7 +15,7 @@ use Rattle.rules.specs.Bytes.{at}
 use Rattle.rules.proofs.Outcomes.{both}
 use Rattle.radio.specs.declared.Tlv.{Tlv}
 use Rattle.hibernaxo.specs.Radio.{all_within, if_within, opportunity_in, heartbeat_in, metric_in, report_in, handed}
-use Rattle.hibernaxo.specs.declared.Handed.TheVariants as handed_over
+use Rattle.std.specs.Prelude.{Some, None}
 
 module _ (fields bounds : List ℕ) where
   -- a field within its bound is passed over
@@ -65,11 +65,11 @@ module _ (fields bounds : List ℕ) where
     field_fits w j e l h = Fits-under w (at fields j) (2 ^ bits w) (field_lt j (2 ^ bits w) e l h) (le→leb _ _ (le_refl _))
 
     -- a TLV whose fields are within their bounds, and none
-    pub if_within_lem : (t : Tlv) → b ≡ true → handed_over.Tlv t ≡ if_within fields bounds t
+    pub if_within_lem : (t : Tlv) → b ≡ true → Some t ≡ if_within fields bounds t
     unfolding if_within
     if_within_lem t e = sym (rw (sym asked ∙ e, if_within))
 
-    pub if_not : (t : Tlv) → b ≡ false → handed_over.Nothing ≡ if_within fields bounds t
+    pub if_not : (t : Tlv) → b ≡ false → None ≡ if_within fields bounds t
     unfolding if_within
     if_not t e = sym (rw (sym asked ∙ e, if_within))
 
@@ -94,6 +94,6 @@ module _ (kind : ℕ) (f : List ℕ) where
         unfolding handed
         is_ten a = rw (ne_eqb kind 1 n1, ne_eqb kind 5 n5, ne_eqb kind 6 n6, eq-eqb kind 10 a, handed)
 
-        pub is-other : (kind ≡ 10 → ⊥) → handed kind f ≡ handed_over.Nothing
+        pub is-other : (kind ≡ 10 → ⊥) → handed kind f ≡ None
         unfolding handed
         is-other n10 = rw (ne_eqb kind 1 n1, ne_eqb kind 5 n5, ne_eqb kind 6 n6, ne_eqb kind 10 n10, handed)

@@ -1,5 +1,6 @@
 -- What the exports for radio messages hand back, by the rules' answer, and what TLV a caller hands over.
-use Rattle.std.specs.Prelude.{ℕ, zero, suc, Bool, true, false, ◌&&◌, List, [], ◌∷◌, leb, eqb, replicate, Float}
+use Rattle.std.specs.Prelude.{ℕ, zero, suc, Bool, true, false, ◌&&◌, List, [], ◌∷◌, leb, eqb, replicate, Float, Some, None}
+use Rattle.std.specs.Prelude as std
 use Rattle.std.proofs.Math.Option.{Option, none, some}
 use Rattle.std.specs.Float.{binary64}
 use Rattle.std.specs.Float.Ieee.{of_bits}
@@ -20,8 +21,6 @@ use Rattle.radio.specs.declared.Reading.{Reading}
 use Rattle.radio.specs.declared.Reading.TheVariants.{Missing, Level, Rate}
 use Rattle.radio.specs.declared.LinkRow.{LinkRow}
 use Rattle.hibernaxo.specs.Told.{refused_at}
-use Rattle.hibernaxo.specs.declared.Handed.{Handed}
-use Rattle.hibernaxo.specs.declared.Handed.TheVariants as handed_over
 
 -- a message read: the header's numbers, and how many TLVs it has
 abbrev pub radio_told : Outcome (Head × ℕ) → ℕ × List ℕ
@@ -85,19 +84,19 @@ abbrev pub report_bounds : List ℕ
 report_bounds = most8 ∷ most32 ∷ most32 ∷ replicate 8 most16
 
 -- the TLV of each type that has these fields, if each fits its bits
-unfoldable pub if_within : List ℕ → List ℕ → Tlv → Handed
-if_within fields bounds t = elim (all_within 11 0 fields bounds) [ true ↦ handed_over.Tlv t | false ↦ handed_over.Nothing ]
+unfoldable pub if_within : List ℕ → List ℕ → Tlv → std.Option Tlv
+if_within fields bounds t = elim (all_within 11 0 fields bounds) [ true ↦ Some t | false ↦ None ]
 
-unfoldable pub opportunity_in : List ℕ → Handed
+unfoldable pub opportunity_in : List ℕ → std.Option Tlv
 opportunity_in f = if_within f opportunity_bounds (TxOp (record { frequency = at f 0; id = at f 1; timeout = at f 2; start = at f 3; stop = at f 4 }))
 
-unfoldable pub heartbeat_in : List ℕ → Handed
+unfoldable pub heartbeat_in : List ℕ → std.Option Tlv
 heartbeat_in f = if_within f heartbeat_bounds (Heartbeat (record { timeout = at f 0 }))
 
-unfoldable pub metric_in : List ℕ → Handed
+unfoldable pub metric_in : List ℕ → std.Option Tlv
 metric_in f = if_within f metric_bounds (LinkMetric (record { seconds = at f 0; micros = at f 1; frequency = at f 2; rssi = signed (at f 3); cinr = signed (at f 4); errors = at f 5 }))
 
-unfoldable pub report_in : List ℕ → Handed
+unfoldable pub report_in : List ℕ → std.Option Tlv
 report_in f = if_within f report_bounds (QueueReport (record {
   seconds = at f 0;
   micros = at f 1;
@@ -113,22 +112,22 @@ report_in f = if_within f report_bounds (QueueReport (record {
 }))
 
 -- by the type's number
-unfoldable pub handed : ℕ → List ℕ → Handed
+unfoldable pub handed : ℕ → List ℕ → std.Option Tlv
 handed kind f = elim (eqb kind 1) [
   | true ↦ opportunity_in f
   | false ↦ elim (eqb kind 5) [
     | true ↦ heartbeat_in f
     | false ↦ elim (eqb kind 6) [
       | true ↦ metric_in f
-      | false ↦ elim (eqb kind 10) [ true ↦ report_in f | false ↦ handed_over.Nothing ]
+      | false ↦ elim (eqb kind 10) [ true ↦ report_in f | false ↦ None ]
     ]
   ]
 ]
 
 -- put at place p of a buffer; what is no TLV is refused there
-unfoldable pub handed_put : Handed → ℕ → List ℕ → Written × List ℕ
-handed_put (handed_over.Tlv t) p buffer = tlv_writer t p buffer
-handed_put handed_over.Nothing p buffer = (unwritten RADIO p, buffer)
+unfoldable pub handed_put : std.Option Tlv → ℕ → List ℕ → Written × List ℕ
+handed_put (Some t) p buffer = tlv_writer t p buffer
+handed_put None p buffer = (unwritten RADIO p, buffer)
 
 -- a link metric's row: what each reading is, and its double, 0 where it is missing
 abbrev pub kind_of : Reading → ℕ

@@ -1,7 +1,9 @@
 -- What each export hands back, by the rules' answer: the refusal number, which it returns; the values, the place first; and the lent buffer as it is left, where one is lent.
-use Rattle.std.specs.Prelude.{ℕ, zero, suc, ◌+◌, ◌-◌, ◌*◌, ◌%◌, ◌^◌, Bool, true, false, List, [], ◌∷◌, ◌++◌, map, get_or, replicate}
+use Rattle.std.specs.Prelude.{ℕ, zero, suc, ◌+◌, ◌-◌, ◌*◌, ◌%◌, ◌^◌, Bool, true, false, List, [], ◌∷◌, ◌++◌, map, get_or, replicate, Result, Ok, Err}
 use Rattle.std.proofs.Math.Option.{Option, none, some}
 use Rattle.rules.specs.Outcome.{Outcome, good, bad}
+use Rattle.refusal.specs.Numbers.{number_of}
+use Rattle.refusal.specs.declared.Refusal.{Refusal}
 use Rattle.rules.specs.Bytes.{join}
 use Rattle.rules.specs.Packages.{package_header}
 use Rattle.rules.specs.Message.{Head, header_bytes}
@@ -22,6 +24,11 @@ use Rattle.capture.specs.Writing.{WriteAnswer}
 -- the values of a refusal at place p: k zeros behind the place
 abbrev pub refused_at : ℕ → ℕ → List ℕ
 refused_at p k = p ∷ replicate k 0
+
+-- what an answer hands over in n values: those of a value as f tells it, the place first, or a refusal's place with zeros behind it; its number beside
+abbrev pub values_told : {A : Type 0} → (A → List ℕ) → ℕ → Result A Refusal → ℕ × List ℕ
+values_told f n (Ok a) = (0, f a)
+values_told f n (Err r) = (number_of r.why, refused_at r.place (n - 1))
 
 -- a header: where its option run begins and how long it is come last
 abbrev pub header_told : Outcome (Head × ℕ) → ℕ × List ℕ

@@ -3,7 +3,7 @@
 // place first. The definitions ..Told say what comes back; include/hibernaxo.h says it to a caller.
 #![tactic(auto)]
 
-ghost use Rattle.std.specs.Prelude.{◌≡◌, [], ◌∷◌, map, ◌+◌, ◌*◌, ◌≤◌, ◌<◌, length};
+ghost use Rattle.std.specs.Prelude.{◌≡◌, refl, ℕ, List, [], ◌∷◌, map, ◌+◌, ◌-◌, ◌*◌, ◌≤◌, ◌<◌, length};
 ghost use Rattle.std.proofs.lemmas.List.Edits.{sets};
 ghost use Rattle.rules.specs.Bytes.{join};
 ghost use Rattle.rules.specs.Reading.{header, checked_recording};
@@ -35,28 +35,87 @@ ghost use Rattle.capture.specs.Told.{numbers_read, numbers_written};
 ghost use Rattle.radio.specs.Radio.{radio_read, tlv_at, radio_writer};
 ghost use Rattle.radio.specs.Row.{link_row};
 ghost use Rattle.hibernaxo.specs.Radio as radios;
-ghost use Rattle.hibernaxo.specs.Told.{header_told, step_told, check_told, draft, written_values, written_told, row_values, sheet_told, answer_values, copy_told, numbers_from, state_at, state_values, report_values, stepped_told, randomized_told, opened_told, range_values, ids_told, stretch_values, salvage_values, salvage_told, read_values, read_told, sent_values, sent_told, cut_values, cut_told};
+ghost use Rattle.hibernaxo.specs.Told.{values_told, refused_at, header_told, step_told, check_told, draft, written_values, written_told, row_values, sheet_told, answer_values, copy_told, numbers_from, state_at, state_values, report_values, stepped_told, randomized_told, opened_told, range_values, ids_told, stretch_values, salvage_values, salvage_told, read_values, read_told, sent_values, sent_told, cut_values, cut_told};
 
-use burst::{Opened, Randomized};
 use capture::{CaptureRead, CaptureWritten};
-use compose::{Record, Written};
+use compose::Record;
 use fragments::Fragmented;
-use ids::{IdRange, IdsAnswer};
-use message::{Checked, HeaderRead, Mdid, PackageRead};
-use numbered::Answer as Reply;
-use radio::{Head, Heartbeat, LinkMetric, QueueReport, RadioRead, Reading, Tlv, TlvRead, TxOp};
-use refusal::{Refusal, Why};
-use release::Answer;
-use salvage::{SalvageAnswer, Salvaged, Stretch};
-use sheet::{Row, SheetAnswer};
+use ids::IdRange;
+use message::{Counts, Header, Mdid};
+use numbered::Progress;
+use radio::{Head, Heartbeat, LinkMetric, QueueReport, RadioMessage, Reading, Tlv, TxOp};
+use refusal::{Refusal, Why, refuse};
+use release::Totals;
+use salvage::{Salvaged, Stretch};
+use sheet::Row;
 use step::State;
 
-// The number of a refusal.
-fn number_in(x: Refusal) -> u32
-    ensures { result ≡ number_of x.why }
+// What an answer hands over to a caller: N values, the first of them the place, which is 0 on success.
+trait Values<const N: usize> {
+    ghost told: { Self → List ℕ };
+
+    fn values(self) -> [u64; N]
+        ensures { result ≡ told self };
+
+    ghost many: { (x : Self) → length (told x) ≡ N };
+}
+
+// A refusal's place, and zeros behind it. Says its number.
+fn put_refusal<const N: usize>(x: Refusal, values: &mut [u64; N]) -> u32
+    requires { 1 ≤ N }
+    ensures { (result ≡ number_of x.why) × (values.new ≡ refused_at x.place (N - 1)) }
 {
-    let why = x.why;
-    refusal::number_of(why)
+    values.fill(0);
+    values[0] = x.place as u64;
+    refusal::number_of(x.why)
+}
+
+// What an answer hands over. Says the refusal's number, 0 for success.
+fn put<T: Values<N>, const N: usize>(answer: Result<T, Refusal>, values: &mut [u64; N]) -> u32
+    requires { 1 ≤ N }
+    ensures { (result, values.new) ≡ values_told T.told N answer }
+{
+    match answer {
+        Ok(t) => {
+            *values = t.values();
+            0
+        }
+        Err(x) => put_refusal(x, values),
+    }
+}
+
+// The values of each item, one behind the other, from a place on.
+fn put_each<T: Values<K> + Copy, const K: usize>(values: &mut [u64], from: usize, items: &[T])
+    requires { from + K * length items.now ≤ length values.old }
+    ensures { values.new ≡ sets values.old from (join (map T.told items.now)) }
+{
+    let mut at = from;
+    for item in items {
+        let end = at + K;
+        values[at..end].copy_from_slice(&item.values());
+        at = end;
+    }
+}
+
+impl Values<10> for Header {
+    ghost told = { λ h. 0 ∷ h.words ∷ h.flags ∷ h.id.0 ∷ h.sequence ∷ h.length ∷ h.seconds ∷ h.nanos ∷ 24 ∷ h.run ∷ [] };
+
+    ghost many = { λ h. refl };
+
+    fn values(self) -> [u64; 10] {
+        [
+            0,
+            self.words as u64,
+            self.flags as u64,
+            self.id.0 as u64,
+            self.sequence as u64,
+            self.length as u64,
+            self.seconds as u64,
+            self.nanos as u64,
+            24,
+            self.run as u64,
+        ]
+    }
 }
 
 // A header alone: W, flags, message id, sequence number, length, time, and where its option run begins and how long it is.
@@ -64,27 +123,7 @@ fn number_in(x: Refusal) -> u32
 pub extern "C" fn hibernaxo_header(bytes: &[u8], values: &mut [u64; 10]) -> u32
     ensures { (result, values.new) ≡ header_told (header bytes.now) }
 {
-    match message::read_header(bytes) {
-        HeaderRead::Header(h) => {
-            *values = [
-                0,
-                h.words as u64,
-                h.flags as u64,
-                h.id.0 as u64,
-                h.sequence as u64,
-                h.length as u64,
-                h.seconds as u64,
-                h.nanos as u64,
-                24,
-                h.run as u64,
-            ];
-            0
-        }
-        HeaderRead::Refused(x) => {
-            *values = [x.place as u64, 0, 0, 0, 0, 0, 0, 0, 0, 0];
-            number_in(x)
-        }
-    }
+    put(message::read_header(bytes), values)
 }
 
 // A step of a package walk: a package with its numbers, where its data begin and how long they are, or the end; and the walk's next place.
@@ -94,7 +133,7 @@ pub extern "C" fn hibernaxo_package(run: &[u8], at: usize, values: &mut [u64; 9]
 {
     let place = at as u64;
     match walk::step_at(run, at) {
-        PackageRead::Package(k) => {
+        Ok(Some(k)) => {
             *values = [
                 0,
                 1,
@@ -108,14 +147,24 @@ pub extern "C" fn hibernaxo_package(run: &[u8], at: usize, values: &mut [u64; 9]
             ];
             0
         }
-        PackageRead::End => {
+        Ok(None) => {
             *values = [0, 0, 0, 0, 0, 0, 0, 0, place];
             0
         }
-        PackageRead::Refused(x) => {
+        Err(x) => {
             *values = [x.place as u64, 0, 0, 0, 0, 0, 0, 0, place];
-            number_in(x)
+            refusal::number_of(x.why)
         }
+    }
+}
+
+impl Values<3> for Counts {
+    ghost told = { λ a. 0 ∷ a.messages ∷ a.packages ∷ [] };
+
+    ghost many = { λ a. refl };
+
+    fn values(self) -> [u64; 3] {
+        [0, self.messages as u64, self.packages as u64]
     }
 }
 
@@ -124,31 +173,17 @@ pub extern "C" fn hibernaxo_package(run: &[u8], at: usize, values: &mut [u64; 9]
 pub extern "C" fn hibernaxo_check(recording: &[u8], values: &mut [u64; 3]) -> u32
     ensures { (result, values.new) ≡ check_told (checked_recording recording.now) }
 {
-    match message::check(recording) {
-        Checked::Passed { messages, packages } => {
-            *values = [0, messages as u64, packages as u64];
-            0
-        }
-        Checked::Refused(x) => {
-            *values = [x.place as u64, 0, 0];
-            number_in(x)
-        }
-    }
+    put(message::check(recording), values)
 }
 
-// What the writer, the cleaner, the purge, joining and the writer of ids answered.
-fn put_written(a: Written, values: &mut [u64; 2]) -> u32
-    ensures { (result, values.new) ≡ written_values (numbers a) }
-{
-    match a {
-        Written::Done { bytes } => {
-            *values = [0, bytes as u64];
-            0
-        }
-        Written::Refused(x) => {
-            *values = [x.place as u64, 0];
-            number_in(x)
-        }
+// Whatever is written or opened: so many bytes, or codeblocks.
+impl Values<2> for usize {
+    ghost told = { λ n. 0 ∷ n ∷ [] };
+
+    ghost many = { λ n. refl };
+
+    fn values(self) -> [u64; 2] {
+        [0, self as u64]
     }
 }
 
@@ -174,8 +209,7 @@ pub extern "C" fn hibernaxo_write(
         seconds,
         nanos: nanoseconds,
     };
-    let a = compose::write(record, options, packages, out);
-    put_written(a, values)
+    put(compose::write(record, options, packages, out), values)
 }
 
 // The clean form of one message: bytes.
@@ -183,8 +217,7 @@ pub extern "C" fn hibernaxo_write(
 pub extern "C" fn hibernaxo_clean(bytes: &[u8], out: &mut [u8], values: &mut [u64; 2]) -> u32
     ensures { (result, values.new, out.new) ≡ written_told (cleaner bytes.now out.old) }
 {
-    let a = compose::clean(bytes, out);
-    put_written(a, values)
+    put(compose::clean(bytes, out), values)
 }
 
 // A recording purged in its buffer: bytes in use.
@@ -192,23 +225,16 @@ pub extern "C" fn hibernaxo_clean(bytes: &[u8], out: &mut [u8], values: &mut [u6
 pub extern "C" fn hibernaxo_purge(buffer: &mut [u8], sheet: &[u8], values: &mut [u64; 2]) -> u32
     ensures { (result, values.new, buffer.new) ≡ written_told (purging.purge buffer.old sheet.now) }
 {
-    let a = purge::purge(buffer, sheet);
-    put_written(a, values)
+    put(purge::purge(buffer, sheet), values)
 }
 
-// What cutting answered.
-fn put_cut(a: Fragmented, values: &mut [u64; 3]) -> u32
-    ensures { (result, values.new) ≡ cut_values (cut_numbers a) }
-{
-    match a {
-        Fragmented::Done { bytes, fragments } => {
-            *values = [0, bytes as u64, fragments as u64];
-            0
-        }
-        Fragmented::Refused(x) => {
-            *values = [x.place as u64, 0, 0];
-            number_in(x)
-        }
+impl Values<3> for Fragmented {
+    ghost told = { λ a. 0 ∷ a.bytes ∷ a.fragments ∷ [] };
+
+    ghost many = { λ a. refl };
+
+    fn values(self) -> [u64; 3] {
+        [0, self.bytes as u64, self.fragments as u64]
     }
 }
 
@@ -222,8 +248,7 @@ pub extern "C" fn hibernaxo_cut(
 ) -> u32
     ensures { (result, values.new, out.new) ≡ cut_told (cutter size message.now out.old) }
 {
-    let a = fragments::cut(message, size, out);
-    put_cut(a, values)
+    put(fragments::cut(message, size, out), values)
 }
 
 // Fragments joined, or one whole message cleaned: bytes.
@@ -231,42 +256,26 @@ pub extern "C" fn hibernaxo_cut(
 pub extern "C" fn hibernaxo_join(fragments: &[u8], out: &mut [u8], values: &mut [u64; 2]) -> u32
     ensures { (result, values.new, out.new) ≡ written_told (joiner fragments.now out.old) }
 {
-    let a = fragments::join(fragments, out);
-    put_written(a, values)
+    put(fragments::join(fragments, out), values)
 }
 
-// Two values from `at` on.
-fn put_two(values: &mut [u64; 290], at: usize, a: u32, b: u32)
-    requires { at < 289 }
-    ensures { values.new ≡ sets values.old at (a ∷ b ∷ []) }
-{
-    values[at] = a as u64;
-    values[at + 1] = b as u64;
-}
+impl Values<9> for Row {
+    ghost told = { λ r. row_values (row_in r) };
 
-// The nine values of row i, behind the place and the number of rows.
-fn put_row(values: &mut [u64; 290], i: usize, row: Row)
-    requires { i < 32 }
-    ensures { values.new ≡ sets values.old (2 + 9 * i) (row_values (row_in row)) }
-{
-    let at = 2 + 9 * i;
-    let start = row.start;
-    let end = row.end;
-    put_two(values, at, row.first_mdid.0, row.last_mdid.0);
-    put_two(values, at + 2, row.first_pdid.0, row.last_pdid.0);
-    put_two(values, at + 4, start.seconds, start.nanos);
-    put_two(values, at + 6, end.seconds, end.nanos);
-    values[at + 8] = row.acquired_only as u64;
-}
+    ghost many = { λ r. refl };
 
-fn put_rows(values: &mut [u64; 290], rows: [Row; 32])
-    ensures { values.new ≡ sets values.old 2 (join (map row_values (map row_in rows))) }
-{
-    let mut i = 0;
-    while i < 32 {
-        let row = rows[i];
-        put_row(values, i, row);
-        i += 1;
+    fn values(self) -> [u64; 9] {
+        [
+            self.first_mdid.0 as u64,
+            self.last_mdid.0 as u64,
+            self.first_pdid.0 as u64,
+            self.last_pdid.0 as u64,
+            self.start.seconds as u64,
+            self.start.nanos as u64,
+            self.end.seconds as u64,
+            self.end.nanos as u64,
+            self.acquired_only as u64,
+        ]
     }
 }
 
@@ -275,36 +284,25 @@ fn put_rows(values: &mut [u64; 290], rows: [Row; 32])
 pub extern "C" fn hibernaxo_sheet(sheet: &[u8], values: &mut [u64; 290]) -> u32
     ensures { (result, values.new) ≡ sheet_told (sheet_rows sheet.now) }
 {
-    let read = sheet::read_sheet(sheet);
-    let answer = read.answer;
-    *values = [0; 290];
-    match answer {
-        SheetAnswer::Good => {
-            let rows = read.rows;
+    match sheet::read_sheet(sheet) {
+        Ok(read) => {
+            *values = [0; 290];
             values[1] = read.count as u64;
-            put_rows(values, rows);
+            put_each(values, 2, &read.rows);
             0
         }
-        SheetAnswer::Refused(x) => {
-            values[0] = x.place as u64;
-            number_in(x)
-        }
+        Err(x) => put_refusal(x, values),
     }
 }
 
-// What measuring and writing answered.
-fn put_answer(a: Answer, values: &mut [u64; 4]) -> u32
-    ensures { (result, values.new) ≡ answer_values (release.numbers a) }
-{
-    match a {
-        Answer::Totals(t) => {
-            *values = [0, t.bytes as u64, t.messages as u64, t.packages as u64];
-            0
-        }
-        Answer::Refused(x) => {
-            *values = [x.place as u64, 0, 0, 0];
-            number_in(x)
-        }
+impl Values<4> for Totals {
+    ghost told = { λ a. 0 ∷ a.bytes ∷ a.messages ∷ a.packages ∷ [] };
+
+    ghost many = { λ a. refl };
+
+    fn values(self) -> [u64; 4] {
+        let t = self;
+        [0, t.bytes as u64, t.messages as u64, t.packages as u64]
     }
 }
 
@@ -317,8 +315,7 @@ pub extern "C" fn hibernaxo_copy_measure(
 ) -> u32
     ensures { (result, values.new) ≡ answer_values (measurement recording.now sheet.now) }
 {
-    let a = release::measure(recording, sheet);
-    put_answer(a, values)
+    put(release::measure(recording, sheet), values)
 }
 
 // The copy of a recording under a sheet: bytes, messages and packages.
@@ -331,8 +328,7 @@ pub extern "C" fn hibernaxo_copy_write(
 ) -> u32
     ensures { (result, values.new, out.new) ≡ copy_told (copy recording.now sheet.now out.old) }
 {
-    let a = release::write(recording, sheet, out);
-    put_answer(a, values)
+    put(release::write(recording, sheet, out), values)
 }
 
 // 64 numbers of a state's array, from a place on.
@@ -341,29 +337,10 @@ fn part_of(state: &[u32; 129], at: usize) -> [u32; 64]
     ensures { result ≡ numbers_from 64 at state.now }
 {
     let mut part = [0u32; 64];
-    let mut i = 0;
-    while i < 64 {
+    for i in 0..64 {
         part[i] = state[at + i];
-        i += 1;
     }
     part
-}
-
-fn put_part(state: &mut [u32; 129], at: usize, part: [u32; 64])
-    requires { at ≤ 65 }
-    ensures { state.new ≡ sets state.old at part }
-{
-    let mut i = 0;
-    while i < 64 {
-        state[at + i] = part[i];
-        i += 1;
-    }
-}
-
-fn wide(x: u32) -> usize
-    ensures { result ≡ x }
-{
-    x as usize
 }
 
 // The state that an array stands for: how many ids are held, then 64 ids, then beside each its next number.
@@ -372,41 +349,42 @@ fn state_in(state: &[u32; 129]) -> State
 {
     let ids = part_of(state, 1);
     let next = part_of(state, 65);
-    let held = wide(state[0]);
+    let held = state[0] as usize;
     State { ids, next, held }
+}
+
+// They are stored one by one and not as a part: an array that is lent to be copied has a place of its own on the stack.
+fn put_part(state: &mut [u32; 129], at: usize, part: [u32; 64])
+    requires { at ≤ 65 }
+    ensures { state.new ≡ sets state.old at part }
+{
+    for i in 0..64 {
+        state[at + i] = part[i];
+    }
 }
 
 fn put_state(state: &mut [u32; 129], after: State)
     ensures { state.new ≡ state_values (state_in after) }
 {
-    let ids = after.ids;
-    let next = after.next;
-    *state = [0; 129];
     state[0] = (after.held % 4294967296) as u32;
-    put_part(state, 1, ids);
-    put_part(state, 65, next);
+    put_part(state, 1, after.ids);
+    put_part(state, 65, after.next);
 }
 
-// What a step answered.
-fn put_reply(a: Reply, values: &mut [u64; 6]) -> u32
-    ensures { (result, values.new) ≡ report_values (report a) }
-{
-    match a {
-        Reply::Done(p) => {
-            *values = [
-                0,
-                p.handled as u64,
-                p.consumed as u64,
-                p.bytes as u64,
-                p.messages as u64,
-                p.packages as u64,
-            ];
-            0
-        }
-        Reply::Refused(x) => {
-            *values = [x.place as u64, 0, 0, 0, 0, 0];
-            number_in(x)
-        }
+impl Values<6> for Progress {
+    ghost told = { λ a. 0 ∷ a.handled ∷ a.consumed ∷ a.bytes ∷ a.messages ∷ a.packages ∷ [] };
+
+    ghost many = { λ a. refl };
+
+    fn values(self) -> [u64; 6] {
+        [
+            0,
+            self.handled as u64,
+            self.consumed as u64,
+            self.bytes as u64,
+            self.messages as u64,
+            self.packages as u64,
+        ]
     }
 }
 
@@ -424,10 +402,19 @@ pub extern "C" fn hibernaxo_step(
 {
     let before = state_in(state);
     let done = step::step(input, sheet, quota, before, out);
-    let after = done.state;
-    put_state(state, after);
-    let answer = done.answer;
-    put_reply(answer, values)
+    put_state(state, done.state);
+    put(done.answer, values)
+}
+
+// Nothing but that it is done.
+impl Values<1> for () {
+    ghost told = { λ a. 0 ∷ [] };
+
+    ghost many = { λ a. refl };
+
+    fn values(self) -> [u64; 1] {
+        [0]
+    }
 }
 
 // A buffer randomized.
@@ -435,16 +422,7 @@ pub extern "C" fn hibernaxo_step(
 pub extern "C" fn hibernaxo_randomize(buf: &mut [u8], values: &mut [u64; 1]) -> u32
     ensures { (result, values.new, buf.new) ≡ randomized_told (randomizer buf.old) }
 {
-    match burst::randomize(buf) {
-        Randomized::Done => {
-            *values = [0];
-            0
-        }
-        Randomized::Refused(x) => {
-            *values = [x.place as u64];
-            number_in(x)
-        }
-    }
+    put(burst::randomize(buf), values)
 }
 
 // A burst opened: codeblocks.
@@ -452,36 +430,16 @@ pub extern "C" fn hibernaxo_randomize(buf: &mut [u8], values: &mut [u64; 1]) -> 
 pub extern "C" fn hibernaxo_open_burst(buf: &mut [u8], values: &mut [u64; 2]) -> u32
     ensures { (result, values.new, buf.new) ≡ opened_told (opener buf.old) }
 {
-    match burst::open_burst(buf) {
-        Opened::Done { blocks } => {
-            *values = [0, blocks as u64];
-            0
-        }
-        Opened::Refused(x) => {
-            *values = [x.place as u64, 0];
-            number_in(x)
-        }
-    }
+    put(burst::open_burst(buf), values)
 }
 
-// First and last of range i, behind the place and the number of ranges.
-fn put_range(values: &mut [u64; 66], i: usize, range: IdRange)
-    requires { i < 32 }
-    ensures { values.new ≡ sets values.old (2 + 2 * i) (range_values (range_in range)) }
-{
-    let at = 2 + 2 * i;
-    values[at] = range.first as u64;
-    values[at + 1] = range.last as u64;
-}
+impl Values<2> for IdRange {
+    ghost told = { λ r. range_values (range_in r) };
 
-fn put_ranges(values: &mut [u64; 66], ranges: [IdRange; 32])
-    ensures { values.new ≡ sets values.old 2 (join (map range_values (map range_in ranges))) }
-{
-    let mut i = 0;
-    while i < 32 {
-        let range = ranges[i];
-        put_range(values, i, range);
-        i += 1;
+    ghost many = { λ r. refl };
+
+    fn values(self) -> [u64; 2] {
+        [self.first as u64, self.last as u64]
     }
 }
 
@@ -490,20 +448,14 @@ fn put_ranges(values: &mut [u64; 66], ranges: [IdRange; 32])
 pub extern "C" fn hibernaxo_read_ids(line: &[u8], values: &mut [u64; 66]) -> u32
     ensures { (result, values.new) ≡ ids_told (read_ids line.now) }
 {
-    let read = ids::read_ids(line);
-    let answer = read.answer;
-    *values = [0; 66];
-    match answer {
-        IdsAnswer::Good => {
-            let ranges = read.ranges;
+    match ids::read_ids(line) {
+        Ok(read) => {
+            *values = [0; 66];
             values[1] = read.count as u64;
-            put_ranges(values, ranges);
+            put_each(values, 2, &read.ranges);
             0
         }
-        IdsAnswer::Refused(x) => {
-            values[0] = x.place as u64;
-            number_in(x)
-        }
+        Err(x) => put_refusal(x, values),
     }
 }
 
@@ -517,50 +469,33 @@ pub extern "C" fn hibernaxo_write_ids(
 ) -> u32
     ensures { (result, values.new, out.new) ≡ written_told (write_ids (handed_over count (ranges_in 32 ends.now)) out.old) }
 {
-    let a = ids::write_ends(ends, count, out);
-    put_written(a, values)
+    put(ids::write_ends(ends, count, out), values)
 }
 
-// Start and length of stretch i, behind the place, the two counts and the number of stretches.
-fn put_stretch(values: &mut [u64; 132], i: usize, stretch: Stretch)
-    requires { i < 64 }
-    ensures { values.new ≡ sets values.old (4 + 2 * i) (stretch_values (salvaged.stretch_in stretch)) }
-{
-    let at = 4 + 2 * i;
-    values[at] = stretch.start as u64;
-    values[at + 1] = stretch.size as u64;
-}
+impl Values<2> for Stretch {
+    ghost told = { λ h. stretch_values (salvaged.stretch_in h) };
 
-fn put_stretches(values: &mut [u64; 132], stretches: [Stretch; 64])
-    ensures { (values.new ≡ sets values.old 4 (join (map stretch_values (map salvaged.stretch_in stretches)))) × (length stretches ≡ 64) }
-{
-    let mut i = 0;
-    while i < 64 {
-        let stretch = stretches[i];
-        put_stretch(values, i, stretch);
-        i += 1;
+    ghost many = { λ h. refl };
+
+    fn values(self) -> [u64; 2] {
+        [self.start as u64, self.size as u64]
     }
 }
 
 // What a salvage answered.
-fn put_salvaged(a: Salvaged, values: &mut [u64; 132]) -> u32
+fn put_salvaged(a: Result<Salvaged, Refusal>, values: &mut [u64; 132]) -> u32
     ensures { (result, values.new) ≡ salvage_values (salvaged.report a) }
 {
-    let answer = a.answer;
-    let stretches = a.stretches;
-    *values = [0; 132];
-    values[3] = a.count as u64;
-    put_stretches(values, stretches);
-    match answer {
-        SalvageAnswer::Done { bytes, messages } => {
-            values[1] = bytes as u64;
-            values[2] = messages as u64;
+    match a {
+        Ok(kept) => {
+            *values = [0; 132];
+            values[1] = kept.bytes as u64;
+            values[2] = kept.messages as u64;
+            values[3] = kept.count as u64;
+            put_each(values, 4, &kept.stretches);
             0
         }
-        SalvageAnswer::Refused(x) => {
-            values[0] = x.place as u64;
-            number_in(x)
-        }
+        Err(x) => put_refusal(x, values),
     }
 }
 
@@ -573,30 +508,24 @@ pub extern "C" fn hibernaxo_salvage(
 ) -> u32
     ensures { (result, values.new, out.new) ≡ salvage_told (salvage.salvage recording.now out.old) }
 {
-    let a = salvage::salvage(recording, out);
-    put_salvaged(a, values)
+    put_salvaged(salvage::salvage(recording, out), values)
 }
 
-// What reading a capture answered.
-fn put_counts(a: CaptureRead, values: &mut [u64; 6]) -> u32
-    ensures { (result, values.new) ≡ read_values (numbers_read a) }
-{
-    match a {
-        CaptureRead::Done(t) => {
-            *values = [
-                0,
-                t.bytes as u64,
-                t.kept as u64,
-                t.not_for_us as u64,
-                t.cut_short as u64,
-                t.bad_message as u64,
-            ];
-            0
-        }
-        CaptureRead::Refused(x) => {
-            *values = [x.place as u64, 0, 0, 0, 0, 0];
-            number_in(x)
-        }
+impl Values<6> for CaptureRead {
+    ghost told = { λ a. 0 ∷ a.counts.bytes ∷ a.counts.kept ∷ a.counts.not_for_us ∷ a.counts.cut_short ∷ a.counts.bad_message ∷ [] };
+
+    ghost many = { λ a. refl };
+
+    fn values(self) -> [u64; 6] {
+        let counts = self.counts;
+        [
+            0,
+            counts.bytes as u64,
+            counts.kept as u64,
+            counts.not_for_us as u64,
+            counts.cut_short as u64,
+            counts.bad_message as u64,
+        ]
     }
 }
 
@@ -610,23 +539,16 @@ pub extern "C" fn hibernaxo_read_capture(
 ) -> u32
     ensures { (result, values.new, out.new) ≡ read_told (read_capture file.now port out.old) }
 {
-    let a = capture::read_capture(file, port, out);
-    put_counts(a, values)
+    put(capture::read_capture(file, port, out), values)
 }
 
-// What writing a capture answered.
-fn put_sent(a: CaptureWritten, values: &mut [u64; 3]) -> u32
-    ensures { (result, values.new) ≡ sent_values (numbers_written a) }
-{
-    match a {
-        CaptureWritten::Done { bytes, messages } => {
-            *values = [0, bytes as u64, messages as u64];
-            0
-        }
-        CaptureWritten::Refused(x) => {
-            *values = [x.place as u64, 0, 0];
-            number_in(x)
-        }
+impl Values<3> for CaptureWritten {
+    ghost told = { λ a. 0 ∷ a.bytes ∷ a.messages ∷ [] };
+
+    ghost many = { λ a. refl };
+
+    fn values(self) -> [u64; 3] {
+        [0, self.bytes as u64, self.messages as u64]
     }
 }
 
@@ -640,8 +562,23 @@ pub extern "C" fn hibernaxo_write_capture(
 ) -> u32
     ensures { (result, values.new, out.new) ≡ sent_told (write_capture recording.now port out.old) }
 {
-    let a = capture::write_capture(recording, port, out);
-    put_sent(a, values)
+    put(capture::write_capture(recording, port, out), values)
+}
+
+impl Values<5> for RadioMessage {
+    ghost told = { λ a. 0 ∷ a.head.destination ∷ a.head.source ∷ a.head.sequence ∷ a.tlvs ∷ [] };
+
+    ghost many = { λ a. refl };
+
+    fn values(self) -> [u64; 5] {
+        [
+            0,
+            self.head.destination as u64,
+            self.head.source as u64,
+            self.head.sequence as u64,
+            self.tlvs as u64,
+        ]
+    }
 }
 
 // A radio message: destination, source, sequence number, and how many TLVs it has.
@@ -649,22 +586,7 @@ pub extern "C" fn hibernaxo_write_capture(
 pub extern "C" fn hibernaxo_read_radio(bytes: &[u8], values: &mut [u64; 5]) -> u32
     ensures { (result, values.new) ≡ radios.radio_told (radio_read bytes.now) }
 {
-    match radio::read(bytes) {
-        RadioRead::Message { head, tlvs } => {
-            *values = [
-                0,
-                head.destination as u64,
-                head.source as u64,
-                head.sequence as u64,
-                tlvs as u64,
-            ];
-            0
-        }
-        RadioRead::Refused(x) => {
-            *values = [x.place as u64, 0, 0, 0, 0];
-            number_in(x)
-        }
-    }
+    put(radio::read(bytes), values)
 }
 
 // The values of a TLV of each type, with the place behind it.
@@ -757,44 +679,35 @@ pub extern "C" fn hibernaxo_radio_tlv(bytes: &[u8], at: usize, values: &mut [u64
 {
     let place = at as u64;
     match radio::tlv_at(bytes, at) {
-        TlvRead::Tlv { tlv, next } => {
-            *values = tlv_values(tlv, next as u64);
+        Ok(Some(found)) => {
+            *values = tlv_values(found.tlv, found.next as u64);
             0
         }
-        TlvRead::End => {
+        Ok(None) => {
             *values = [0, 0, place, 0, 0, 0, 0, 0, 0, 0, 0, 0, 0, 0];
             0
         }
-        TlvRead::Refused(x) => {
+        Err(x) => {
             *values = [x.place as u64, 0, place, 0, 0, 0, 0, 0, 0, 0, 0, 0, 0, 0];
-            number_in(x)
+            refusal::number_of(x.why)
         }
     }
-}
-
-// What a caller hands over as a TLV, if it is one.
-#[derive(Clone, Copy)]
-enum Handed {
-    Tlv(Tlv),
-    Nothing,
 }
 
 // No field is above its bound.
 fn all_within(fields: &[u64; 11], bounds: [u64; 11]) -> bool
     ensures { result ≡ radios.all_within 11 0 fields.now bounds }
 {
-    let mut i = 0;
-    while i < 11 {
+    for i in 0..11 {
         if bounds[i] < fields[i] {
             return false;
         }
-        i += 1;
     }
     true
 }
 
 // A TLV of each type from its fields, if they fit their bits. Whatever stands behind them is not looked at.
-fn opportunity_in(fields: &[u64; 11]) -> Handed
+fn opportunity_in(fields: &[u64; 11]) -> Option<Tlv>
     ensures { result ≡ radios.opportunity_in fields.now }
 {
     let any = 18446744073709551615;
@@ -802,9 +715,9 @@ fn opportunity_in(fields: &[u64; 11]) -> Handed
         65535, 65535, 255, 4294967295, 4294967295, any, any, any, any, any, any,
     ];
     if !all_within(fields, bounds) {
-        return Handed::Nothing;
+        return None;
     }
-    Handed::Tlv(Tlv::TxOp(TxOp {
+    Some(Tlv::TxOp(TxOp {
         frequency: fields[0] as u16,
         id: fields[1] as u16,
         timeout: fields[2] as u8,
@@ -813,20 +726,20 @@ fn opportunity_in(fields: &[u64; 11]) -> Handed
     }))
 }
 
-fn heartbeat_in(fields: &[u64; 11]) -> Handed
+fn heartbeat_in(fields: &[u64; 11]) -> Option<Tlv>
     ensures { result ≡ radios.heartbeat_in fields.now }
 {
     let any = 18446744073709551615;
     let bounds = [65535, any, any, any, any, any, any, any, any, any, any];
     if !all_within(fields, bounds) {
-        return Handed::Nothing;
+        return None;
     }
-    Handed::Tlv(Tlv::Heartbeat(Heartbeat {
+    Some(Tlv::Heartbeat(Heartbeat {
         timeout: fields[0] as u16,
     }))
 }
 
-fn metric_in(fields: &[u64; 11]) -> Handed
+fn metric_in(fields: &[u64; 11]) -> Option<Tlv>
     ensures { result ≡ radios.metric_in fields.now }
 {
     let any = 18446744073709551615;
@@ -834,11 +747,11 @@ fn metric_in(fields: &[u64; 11]) -> Handed
         255, 4294967295, 65535, 255, 255, 255, any, any, any, any, any,
     ];
     if !all_within(fields, bounds) {
-        return Handed::Nothing;
+        return None;
     }
     let rssi = radio::signed_of(fields[3] as u8);
     let cinr = radio::signed_of(fields[4] as u8);
-    Handed::Tlv(Tlv::LinkMetric(LinkMetric {
+    Some(Tlv::LinkMetric(LinkMetric {
         seconds: fields[0] as u8,
         micros: fields[1] as u32,
         frequency: fields[2] as u16,
@@ -848,16 +761,16 @@ fn metric_in(fields: &[u64; 11]) -> Handed
     }))
 }
 
-fn report_in(fields: &[u64; 11]) -> Handed
+fn report_in(fields: &[u64; 11]) -> Option<Tlv>
     ensures { result ≡ radios.report_in fields.now }
 {
     let bounds = [
         255, 4294967295, 4294967295, 65535, 65535, 65535, 65535, 65535, 65535, 65535, 65535,
     ];
     if !all_within(fields, bounds) {
-        return Handed::Nothing;
+        return None;
     }
-    Handed::Tlv(Tlv::QueueReport(QueueReport {
+    Some(Tlv::QueueReport(QueueReport {
         seconds: fields[0] as u8,
         micros: fields[1] as u32,
         mission: fields[2] as u32,
@@ -872,7 +785,7 @@ fn report_in(fields: &[u64; 11]) -> Handed
     }))
 }
 
-fn tlv_in(kind: u32, fields: &[u64; 11]) -> Handed
+fn tlv_in(kind: u32, fields: &[u64; 11]) -> Option<Tlv>
     ensures { result ≡ radios.handed kind fields.now }
 {
     if kind == 1 {
@@ -887,18 +800,15 @@ fn tlv_in(kind: u32, fields: &[u64; 11]) -> Handed
     if kind == 10 {
         return report_in(fields);
     }
-    Handed::Nothing
+    None
 }
 
-fn put_handed(t: Handed, out: &mut [u8], at: usize) -> Written
+fn put_handed(t: Option<Tlv>, out: &mut [u8], at: usize) -> Result<usize, Refusal>
     ensures { told result out.new ≡ radios.handed_put t at out.old }
 {
     match t {
-        Handed::Tlv(x) => radio::put_tlv(x, out, at),
-        Handed::Nothing => Written::Refused(Refusal {
-            why: Why::Radio,
-            place: at,
-        }),
+        Some(x) => radio::put_tlv(x, out, at),
+        None => refuse(Why::Radio, at),
     }
 }
 
@@ -914,8 +824,7 @@ pub extern "C" fn hibernaxo_put_radio_tlv(
     ensures { (result, values.new, out.new) ≡ written_told (radios.handed_put (radios.handed kind fields.now) at out.old) }
 {
     let t = tlv_in(kind, fields);
-    let a = put_handed(t, out, at);
-    put_written(a, values)
+    put(put_handed(t, out, at), values)
 }
 
 // A radio message written from its header's numbers and a run of TLVs: bytes.
@@ -935,8 +844,7 @@ pub extern "C" fn hibernaxo_write_radio(
         source,
         sequence,
     };
-    let a = radio::write(head, run, out);
-    put_written(a, values)
+    put(radio::write(head, run, out), values)
 }
 
 // What a reading is, and its double, which is 0 where it is missing.

@@ -6,7 +6,7 @@ use mathlib.Core.Bool.{Bool, true, false, not, ◌&&◌, ◌||◌}
 use mathlib.Core.List.{List, [], ◌∷◌, ◌++◌, map}
 use native.Mathlib.Nat.{add-zero}
 use native.Mathlib.Omega.{arith}
-use borrow.Author.Tests.{ltb-true, leb-true, leb-false, lt-ltb, le-ltb, le-leb, lt-leb}
+use borrow.Author.Tests.{ltb-true, leb-true, leb-false, lt-ltb, le-leb, lt-leb}
 use lib.Dec.{leb, ltb}
 use lib.ListN.{length}
 use Rattle.rules.specs.Outcome.{good, bad}
@@ -16,7 +16,6 @@ use Rattle.rules.proofs.Outcomes.{pass, passed, halt, fronted, front_of_lem, ref
 use Rattle.ids.specs.Line.{Item}
 use Rattle.ids.specs.Reader.{most_items, item_fits, ranges_of, Range}
 use Rattle.ids.specs.Claims.{Fits, range_of}
-use Rattle.ids.specs.Parts.{pair_fits}
 
 pub fits-is : (i : Item) → item_fits i ≡ true → Fits i
 unfolding item_fits
@@ -31,21 +30,6 @@ fits_yes i f = rw (lt-ltb i.first (2 ^ 32) f.first, lt-ltb i.last (2 ^ 32) f.las
 
 pub fits_not : (i : Item) → item_fits i ≡ false → Fits i → ⊥
 fits_not i e f = let z : true ≡ false = sym (fits_yes i f) ∙ e in let y : ◌≡◌ {A = ℕ} 0 1 = cc in omega arith
-
--- the tests, one by one
-module _ (a b : ℕ) where
-  pub first-large : 2 ^ 32 ≤ a → false ≡ pair_fits a b
-  unfolding item_fits
-  first-large l = rw (le-ltb a (2 ^ 32) l)
-
-  module _ (x : a < 2 ^ 32) where
-    pub last-large : 2 ^ 32 ≤ b → false ≡ pair_fits a b
-    unfolding item_fits
-    last-large l = rw (lt-ltb a (2 ^ 32) x, le-ltb b (2 ^ 32) l)
-
-    pub in_order : b < 2 ^ 32 → leb a b ≡ pair_fits a b
-    unfolding item_fits
-    in_order y = rw (lt-ltb a (2 ^ 32) x, lt-ltb b (2 ^ 32) y)
 
 -- the test of an item with n before it
 judged : (i : Item) (n : ℕ) → (not (item_fits i) || leb most_items n) ≡ false → Fits i × (n < most_items)

@@ -14,13 +14,11 @@ use Rattle.rules.specs.Bytes.{at}
 use Rattle.refusal.specs.Numbers.{TEXT}
 use Rattle.rules.proofs.Outcomes.{pass, halt, step, stop, bad_inj, good≢bad}
 use Rattle.ids.specs.Line.{Item, comma}
-use Rattle.ids.specs.Reader.{Range, most_items, no_range, item_fits, item_at, list_at, ranges_of, id_ranges, handed_out, read_ids, shown_ranges}
+use Rattle.ids.specs.Reader.{Range, most_items, no_range, item_fits, item_at, list_at, ranges_of, id_ranges, handed_out, read_ids}
 use Rattle.ids.specs.Claims.{range_of}
-use Rattle.ids.specs.Told.{range_in, answer, told, ranges_in}
-use Rattle.ids.specs.Parts.{rest_at, form_of, read_on, fault_at, pair_fits, held_ranges, with_range, Held, line_told}
+use Rattle.ids.specs.Told.{range_in, ranges_in}
+use Rattle.ids.specs.Parts.{rest_at, form_of, read_on, fault_at, pair_fits, held_ranges, with_range, Held}
 use Rattle.ids.specs.declared.IdRange.{IdRange}
-use Rattle.ids.specs.declared.LineRead.{LineRead}
-use Rattle.ids.specs.declared.IdsAnswer.TheVariants as Answer
 use Rattle.rules.proofs.Growing.{map-append}
 use Rattle.ids.proofs.Ends.{many, ranges_more}
 use Rattle.ids.proofs.Steps.{rest-none, rest_odd, rest-list, list-broken, list_then}
@@ -66,10 +64,10 @@ unfolding form_of fault_at ◌>>=◌
 fault-good p (good is) e = refl
 fault-good p (bad n q) e = absurd (good≢bad (sym e))
 
-pub fault-bad : (p q : ℕ) (o : Outcome (List Item)) → bad TEXT q ≡ form_of o → bad TEXT q ≡ fault_at p o
+pub fault-bad : (p n q : ℕ) (o : Outcome (List Item)) → bad n q ≡ form_of o → bad n q ≡ fault_at p o
 unfolding form_of fault_at ◌>>=◌
-fault-bad p q (good is) e = absurd (good≢bad e)
-fault-bad p q (bad n r) e = let (a, b) = bad_inj e in rw (a, b)
+fault-bad p n q (good is) e = absurd (good≢bad e)
+fault-bad p n q (bad m r) e = let (a, b) = bad_inj e in rw (a, b)
 
 -- ---- the ranges that are held
 
@@ -92,9 +90,6 @@ map-take : (n : ℕ) (l : List IdRange) → take n (map range_in l) ≡ map rang
 map-take zero l = refl
 map-take (suc n) [] = refl
 map-take (suc n) (r ∷ l) = ap (λ (q : List Range). range_in r ∷ q) (map-take n l)
-
-pub held_start : Held (replicate 64 0) 0
-held_start = record { few = omega arith; long = refl; behind = refl }
 
 module _ (numbers : List ℕ) (n : ℕ) (held : Held numbers n) where
   abbrev seen : List Range
@@ -128,7 +123,7 @@ module _ (numbers : List ℕ) (n : ℕ) (held : Held numbers n) where
     abbrev asked : Outcome (List Range × ℕ)
     asked = read_on seen (list_at 0 p (drop p s))
 
-    pub item-broken : {q : ℕ} → item_at p (drop p s) ≡ bad TEXT q → bad TEXT q ≡ asked
+    pub item-broken : {m q : ℕ} → item_at p (drop p s) ≡ bad m q → bad m q ≡ asked
     item-broken e = sym (read-broken seen _ (list-broken s p e))
 
     module _ (a b k : ℕ) (e : item_at p (drop p s) ≡ good (record { place = p; first = a; last = b }, k)) where
@@ -167,13 +162,6 @@ module _ (numbers : List ℕ) (n : ℕ) (held : Held numbers n) where
 
 -- ---- what is handed out
 
-pub heard : {r r' : LineRead} (numbers : List ℕ) {o : Outcome (List Range × ℕ)} → r ≡ r' → line_told r' numbers ≡ o → line_told r numbers ≡ o
-heard numbers e f = ap (λ (x : LineRead). line_told x numbers) e ∙ f
-
-pub handed : (numbers : List ℕ) (ranges : List IdRange) (k : ℕ) → ranges ≡ ranges_in 32 numbers → told (record { answer = Answer.Good; ranges = ranges; count = k }) ≡ answer (good (held_ranges numbers, k))
-unfolding shown_ranges
-handed numbers ranges k e = rw e
-
 bind_twice : {A B C : Type 0} (o : Outcome A) (f : A → Outcome B) (g : B → Outcome C) → ((o >>= f) >>= g) ≡ (o >>= λ (a : A). f a >>= g)
 unfolding ◌>>=◌
 bind_twice (good a) f g = refl
@@ -181,12 +169,12 @@ bind_twice (bad n p) f g = refl
 
 -- a whole line
 module _ (s : List ℕ) where
-  pub line-large : 65536 < length s → answer (bad LARGE 65536) ≡ answer (read_ids s)
+  pub line-large : 65536 < length s → bad LARGE 65536 ≡ read_ids s
   unfolding read_ids id_ranges
-  line-large l = ap answer (sym (stop _ _ (halt _ _ _ _ (lt-ltb 65536 (length s) l))))
+  line-large l = sym (stop _ _ (halt _ _ _ _ (lt-ltb 65536 (length s) l)))
 
-  pub line_read : length s ≤ 65536 → answer (read_on [] (list_at 0 0 s)) ≡ answer (read_ids s)
+  pub line_read : length s ≤ 65536 → read_on [] (list_at 0 0 s) ≡ read_ids s
   unfolding read_ids id_ranges read_on
   line_read l =
       let e : id_ranges s ≡ (list_at 0 0 s >>= ranges_of 0) = pass _ _ _ _ (le-ltb 65536 (length s) l) refl in
-      ap answer (sym (ap (λ (o : Outcome (List Range)). o >>= λ (rs : List Range). good (handed_out rs)) e ∙ bind_twice (list_at 0 0 s) (ranges_of 0) (λ (rs : List Range). good (handed_out rs))))
+      sym (ap (λ (o : Outcome (List Range)). o >>= λ (rs : List Range). good (handed_out rs)) e ∙ bind_twice (list_at 0 0 s) (ranges_of 0) (λ (rs : List Range). good (handed_out rs)))

@@ -9,7 +9,7 @@ use native.Mathlib.Numerals.{add-one}
 use native.Mathlib.Omega.{arith}
 use borrow.Author.Tests.{eqb-true, eqb-false, eq-eqb, ne_eqb, leb-true, leb-false}
 use lib.Dec.{eqb, leb}
-use lib.ListN.{length, take, drop, length-append, length-drop, drop_of_length-le, get_or-eq_default}
+use lib.ListN.{length, take, drop, length-append, length-drop, drop_of_length-le}
 use lib.Seq.{get_or-drop, drop-drop, drop-cons}
 use Rattle.rules.specs.Outcome.{Outcome, good, bad, ◌>>=◌, ◌∷>◌}
 use Rattle.rules.specs.Bytes.{at}
@@ -31,14 +31,7 @@ digits-most (suc k) (x ∷ s) = go (is_digit x) refl (digits-most k s)
     go true e (a, b) = rw (e, digits) (omega arith, omega arith)
     go false e r = rw (e, digits) (omega arith, omega arith)
 
--- the byte at a place is not behind the end if it is not 0
-pub byte_inside : (s : List ℕ) (k : ℕ) → (at s k ≡ 0 → ⊥) → k < length s
-byte_inside s k h = go (leb (length s) k) refl
-  where
-    go : (b : Bool) → leb (length s) k ≡ b → k < length s
-    go true e = absurd (h (get_or-eq_default s 0 (leb-true _ _ e)))
-    go false e = leb-false _ _ e
-
+-- the byte that stands n behind place p
 pub byte-behind : (s : List ℕ) (p n : ℕ) → at (drop p s) n ≡ at s (p + n)
 byte-behind s p n = get_or-drop p s n 0
 
@@ -67,9 +60,6 @@ module _ (s : List ℕ) (p n v : ℕ) (en : n ≡ digits 10 (drop p s)) (ev : v 
         sym (step _ _ (some-digits z) (rw (e, item_behind)))
 
     module _ (h : at s (p + n) ≡ hyphen) where
-      pub hyphen-inside : p + n + 1 ≤ length s
-      hyphen-inside = omega (arith, byte_inside s (p + n) (λ y. omega (arith, h, y)))
-
       behind : {o : Outcome (ℕ × ℕ)} → id_at (p + n + 1) (drop (p + n + 1) s) ≡ o
           → item_at p (drop p s) ≡ (o >>= λ r. good (record { place = p; first = v; last = r.0 }, n + 1 + r.1))
       unfolding item_at item_behind
@@ -177,7 +167,7 @@ module _ (s : List ℕ) (from q : ℕ) (inv : Formed s from q) where
     form_odd h = sym (inv.form ∙ rw (rest_odd s q l h))
 
     module _ (h : at s q ≡ comma) where
-      pub form-bad : {r : ℕ} → item_at (q + 1) (drop (q + 1) s) ≡ bad TEXT r → bad TEXT r ≡ form_of (rest_at from (drop from s))
+      pub form-bad : {n r : ℕ} → item_at (q + 1) (drop (q + 1) s) ≡ bad n r → bad n r ≡ form_of (rest_at from (drop from s))
       unfolding form_of
       form-bad e = sym (inv.form ∙ rw (rest-list s q l h, list-broken s (q + 1) e))
 

@@ -101,9 +101,6 @@ module _ (ranges : List IdRange) (n : ℕ) (w : length ranges ≡ 32) where
     pub few : i ≤ 32
     pub kept : ranges_kept 0 handed ≡ ranges_kept i (drop i handed)
 
-  pub order-start : Ordering 0
-  order-start = record { inside = omega arith; few = omega arith; kept = refl }
-
   module _ (i : ℕ) (inv : Ordering i) where
     pub order-end : n ≤ i → good tt ≡ ranges_kept 0 handed
     unfolding ranges_kept
@@ -191,8 +188,8 @@ module _ (ranges : List IdRange) (n : ℕ) (w : length ranges ≡ 32) (b : List 
     some : 1 ≤ length (handed_over n ranges)
     some = rw (handed-length ranges n w) (pos_of_ne-zero h)
 
-    pub write-bad : (i : ℕ) → bad TEXT i ≡ ranges_kept 0 (handed_over n ranges) → (unwritten TEXT i, b) ≡ write_ids (handed_over n ranges) b
-    write-bad i e = refused-line (line_of-bad _ some (sym e))
+    pub write-bad : (m i : ℕ) → bad m i ≡ ranges_kept 0 (handed_over n ranges) → (unwritten m i, b) ≡ write_ids (handed_over n ranges) b
+    write-bad m i e = refused-line (line_of-bad _ some (sym e))
 
     module _ (e : good tt ≡ ranges_kept 0 (handed_over n ranges)) where
       pub write-few : (1 ≤ n) × (n ≤ 32)

@@ -1,24 +1,17 @@
 -- What is answered between a line's beginning and its end, and before anything is written: the promises of the private functions.
-use Rattle.std.specs.Prelude.{ℕ, zero, suc, ◌+◌, ◌-◌, ◌*◌, ◌≤◌, ◌≡◌, Bool, not, List, [], ◌∷◌, ◌++◌, map, eqb, length, drop, set, replicate}
+use Rattle.std.specs.Prelude.{Result, ℕ, zero, suc, ◌+◌, ◌-◌, ◌*◌, ◌≤◌, ◌≡◌, Bool, not, List, [], ◌∷◌, ◌++◌, map, eqb, length, drop, set, replicate}
 use Rattle.rules.specs.Outcome.{Outcome, good, bad, refuse, ◌>>◌, ◌>>=◌}
-use Rattle.refusal.specs.Numbers.{TEXT, refused}
+use Rattle.refusal.specs.Numbers.{TEXT, outcome_by}
+use Rattle.refusal.specs.declared.Refusal.{Refusal}
 use Rattle.ids.specs.Line.{comma, Item}
 use Rattle.ids.specs.Reader.{Range, most_items, item_fits, list_at, ranges_of, handed_out}
 use Rattle.ids.specs.Told.{range_in, ranges_in}
 use Rattle.ids.specs.declared.IdRange.{IdRange}
-use Rattle.ids.specs.declared.ItemRead.{ItemRead}
-use Rattle.ids.specs.declared.ItemRead.TheVariants as Read
-use Rattle.ids.specs.declared.Form.{Form}
-use Rattle.ids.specs.declared.Form.TheVariants as Formed
-use Rattle.ids.specs.declared.LineRead.{LineRead}
-use Rattle.ids.specs.declared.LineRead.TheVariants as Line
-use Rattle.ids.specs.declared.Order.{Order}
-use Rattle.ids.specs.declared.Order.TheVariants as Ordered
+use Rattle.ids.specs.declared.Item as code
 
 -- an item read at place p
-abbrev pub told_item : ℕ → ItemRead → Outcome (Item × ℕ)
-told_item p (Read.Item a b n) = good (record { place = p; first = a; last = b }, n)
-told_item p (Read.Broken q) = bad TEXT q
+abbrev pub told_item : ℕ → Result code.Item Refusal → Outcome (Item × ℕ)
+told_item p r = outcome_by (λ (i : code.Item). (record { place = p; first = i.first; last = i.last }, i.size)) r
 
 -- what follows an item, u at place p: nothing, or a comma and a list
 unfoldable pub rest_at : ℕ → List ℕ → Outcome (List Item)
@@ -28,10 +21,6 @@ rest_at p (x ∷ u) = do
   list_at zero (suc p) u
 
 -- the form of what follows an item
-abbrev pub told_form : Form → Outcome (Unit {0})
-told_form Formed.Good = good tt
-told_form (Formed.Broken q) = bad TEXT q
-
 unfoldable pub form_of : Outcome (List Item) → Outcome (Unit {0})
 form_of (good is) = good tt
 form_of (bad n p) = bad n p
@@ -67,15 +56,9 @@ pub record Held (numbers : List ℕ) (n : ℕ) : Type 0 where
   pub behind : drop (2 * n) numbers ≡ replicate (2 * (most_items - n)) 0
 
 -- what the readers come to, with the numbers after it
-abbrev pub line_told : LineRead → List ℕ → Outcome (List Range × ℕ)
-line_told (Line.Ranges n) numbers = good (held_ranges numbers, n)
-line_told (Line.Refused f) numbers = refused f
+abbrev pub line_told : Result ℕ Refusal → List ℕ → Outcome (List Range × ℕ)
+line_told r numbers = outcome_by (λ (n : ℕ). (held_ranges numbers, n)) r
 
 -- a range of the code that is all zero
 abbrev pub no_ids : IdRange
 no_ids = record { first = 0; last = 0 }
-
--- whether ranges may be written
-abbrev pub told_order : Order → Outcome (Unit {0})
-told_order Ordered.Kept = good tt
-told_order (Ordered.Bad i) = bad TEXT i

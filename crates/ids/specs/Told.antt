@@ -1,13 +1,12 @@
 -- What the answers of reading and writing stand for.
-use Rattle.std.specs.Prelude.{ℕ, zero, suc, ◌-◌, List, [], ◌∷◌, ◌++◌, map, take, drop, replicate}
-use Rattle.rules.specs.Outcome.{Outcome, good}
+use Rattle.std.specs.Prelude.{Result, ℕ, zero, suc, ◌-◌, List, [], ◌∷◌, ◌++◌, map, take, drop, replicate}
+use Rattle.rules.specs.Outcome.{Outcome}
 use Rattle.rules.specs.Bytes.{at}
-use Rattle.refusal.specs.Numbers.{refused}
+use Rattle.refusal.specs.Numbers.{outcome_by}
+use Rattle.refusal.specs.declared.Refusal.{Refusal}
 use Rattle.ids.specs.Reader.{Range, most_items, no_range, shown_ranges}
 use Rattle.ids.specs.declared.IdRange.{IdRange}
-use Rattle.ids.specs.declared.IdsAnswer.{IdsAnswer}
-use Rattle.ids.specs.declared.IdsAnswer.TheVariants as Answer
-use Rattle.ids.specs.declared.IdsRead.{IdsRead}
+use Rattle.ids.specs.declared.Ids.{Ids}
 
 -- a range of the code
 abbrev pub range_in : IdRange → Range
@@ -17,12 +16,11 @@ range_in r = record { first = r.first; last = r.last }
 abbrev pub answer : Outcome (List Range × ℕ) → Outcome (List Range × ℕ) × (List Range × ℕ)
 answer o = (o, shown_ranges o)
 
-abbrev pub outcome_of : IdsAnswer → List Range × ℕ → Outcome (List Range × ℕ)
-outcome_of Answer.Good x = good x
-outcome_of (Answer.Refused f) x = refused f
+abbrev pub ids_in : Ids → List Range × ℕ
+ids_in i = (map range_in i.ranges, i.count)
 
-abbrev pub told : IdsRead → Outcome (List Range × ℕ) × (List Range × ℕ)
-told r = (outcome_of r.answer (map range_in r.ranges, r.count), (map range_in r.ranges, r.count))
+abbrev pub told : Result Ids Refusal → Outcome (List Range × ℕ) × (List Range × ℕ)
+told r = answer (outcome_by ids_in r)
 
 -- the n ranges that a caller hands over in an array of 32; what a 33rd and those behind it are does not matter, since the 33rd is refused
 abbrev pub handed_over : ℕ → List IdRange → List Range

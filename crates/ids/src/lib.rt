@@ -5,52 +5,29 @@
 
 ghost use Rattle.std.specs.Prelude.{◌≡◌, List, map, ℕ, ◌+◌, ◌%◌, ◌≤◌, ◌<◌, length, get_or, take, drop};
 ghost use Rattle.std.proofs.lemmas.List.Edits.{sets};
-ghost use Rattle.refusal.specs.Numbers.{refused};
+ghost use Rattle.refusal.specs.Numbers.{outcome_of};
 ghost use Rattle.ids.specs.Line.{decimal};
 ghost use Rattle.ids.specs.Reader.{is_digit, digits, item_at, list_at, read_ids};
 ghost use Rattle.ids.specs.Writer.{id_text, item_text, line_text, ranges_kept, write_ids};
 ghost use Rattle.compose.specs.Told as compose;
 ghost use Rattle.ids.specs.Told.{range_in, answer, told, handed_over, ranges_in};
-ghost use Rattle.ids.specs.Parts.{told_item, rest_at, told_form, form_of, pair_fits, held_ranges, with_range, Held, line_told, read_on, fault_at, no_ids, told_order};
+ghost use Rattle.ids.specs.Parts.{told_item, rest_at, form_of, pair_fits, held_ranges, with_range, Held, line_told, read_on, fault_at, no_ids};
 
-use compose::Written;
-use refusal::{Refusal, Why};
+use refusal::{Refusal, Why, refuse};
 use wire::{byte_at, put_byte};
 
 // An inclusive range of ids.
-#[derive(Clone, Copy)]
+#[derive(Clone, Copy, PartialEq, Eq)]
 pub struct IdRange {
     pub first: u32,
     pub last: u32,
 }
 
+// The ranges of a line and their number; ranges behind the last are zero.
 #[derive(Clone, Copy)]
-pub enum IdsAnswer {
-    Good,
-    Refused(Refusal),
-}
-
-// The ranges and their number; ranges behind the last are zero, and all ranges of a line that is refused.
-#[derive(Clone, Copy)]
-pub struct IdsRead {
-    pub answer: IdsAnswer,
+pub struct Ids {
     pub ranges: [IdRange; 32],
     pub count: usize,
-}
-
-fn wide(x: u8) -> u64
-    ensures { (result ≡ x) × (result < 256) }
-{
-    x as u64
-}
-
-fn is_digit(x: u8) -> bool
-    ensures { result ≡ is_digit x }
-{
-    if x < 48 {
-        return false;
-    }
-    x <= 57
 }
 
 // The digits at a place: the number that they say, and how many they are, at most 10.
@@ -65,123 +42,82 @@ fn digits_at(s: &[u8], at: usize) -> DigitsRead
     ensures { (result.count ≡ digits 10 (drop at s.now)) × (result.value ≡ decimal 0 (take result.count (drop at s.now))) }
 {
     let mut value: u64 = 0;
-    let mut n: usize = 0;
-    while n < 10 {
+    for n in 0..10 {
         let x = byte_at(s, at + n);
-        if !is_digit(x) {
+        if !x.is_ascii_digit() {
             return DigitsRead { value, count: n };
         }
-        value = value * 10 + (wide(x) - 48);
-        n += 1;
+        value = value * 10 + u64::from(x - 48);
     }
-    DigitsRead { value, count: n }
+    DigitsRead { value, count: 10 }
 }
 
-// An item, its ids and how many bytes it has; or where the form is broken.
+// The ids of an item and how many bytes it has.
 #[derive(Clone, Copy)]
-enum ItemRead {
-    Item { first: u64, last: u64, size: usize },
-    Broken(usize),
+struct Item {
+    first: u64,
+    last: u64,
+    size: usize,
 }
 
-fn item_at(s: &[u8], at: usize) -> ItemRead
+fn item_at(s: &[u8], at: usize) -> Result<Item, Refusal>
     requires { at ≤ length s.now }
     ensures { told_item at result ≡ item_at at (drop at s.now) }
 {
     let a = digits_at(s, at);
     if a.count == 0 {
-        return ItemRead::Broken(at);
+        return refuse(Why::Text, at);
     }
     let m = at + a.count;
     if byte_at(s, m) != 45 {
-        return ItemRead::Item {
+        return Ok(Item {
             first: a.value,
             last: a.value,
             size: a.count,
-        };
+        });
     }
     let b = digits_at(s, m + 1);
     if b.count == 0 {
-        return ItemRead::Broken(m + 1);
+        return refuse(Why::Text, m + 1);
     }
-    ItemRead::Item {
+    Ok(Item {
         first: a.value,
         last: b.value,
         size: a.count + 1 + b.count,
-    }
-}
-
-// Whether the rest of a line has good form, or where it is broken.
-#[derive(Clone, Copy)]
-enum Form {
-    Good,
-    Broken(usize),
+    })
 }
 
 // The form of what follows an item: nothing, or a comma and a list.
-fn form_at(s: &[u8], from: usize) -> Form
+fn form_at(s: &[u8], from: usize) -> Result<(), Refusal>
     requires { from ≤ length s.now }
-    ensures { told_form result ≡ form_of (rest_at from (drop from s.now)) }
+    ensures { outcome_of result ≡ form_of (rest_at from (drop from s.now)) }
 {
     let mut at = from;
     while at < s.len() {
         if s[at] != 44 {
-            return Form::Broken(at);
+            return refuse(Why::Text, at);
         }
-        match item_at(s, at + 1) {
-            ItemRead::Broken(q) => {
-                return Form::Broken(q);
-            }
-            ItemRead::Item {
-                first: _,
-                last: _,
-                size,
-            } => {
-                at = at + 1 + size;
-            }
-        }
+        let item = item_at(s, at + 1)?;
+        at = at + 1 + item.size;
     }
-    Form::Good
-}
-
-// What the readers come to: so many ranges are read, or the line is refused.
-#[derive(Clone, Copy)]
-enum LineRead {
-    Ranges(usize),
-    Refused(Refusal),
-}
-
-fn refuse(place: usize) -> LineRead
-    ensures { result ≡ LineRead.Refused (record { why = Why.Text; place = place }) }
-{
-    LineRead::Refused(Refusal {
-        why: Why::Text,
-        place,
-    })
+    Ok(())
 }
 
 // The item at place `at` is at fault. What follows it is looked at for its form alone, in a loop, since it may be long.
-fn fault(s: &[u8], at: usize, next: usize) -> LineRead
+fn fault(s: &[u8], at: usize, next: usize) -> Result<usize, Refusal>
     requires { next ≤ length s.now }
     ensures { (numbers : List ℕ) → line_told result numbers ≡ fault_at at (rest_at next (drop next s.now)) }
 {
-    match form_at(s, next) {
-        Form::Good => refuse(at),
-        Form::Broken(q) => refuse(q),
-    }
+    form_at(s, next)?;
+    refuse(Why::Text, at)
 }
 
 // Whether both ids are below 2^32, the first not above the last.
+#[tactic(auto, unfolding(crate::specs::Reader::item_fits))]
 fn fits(first: u64, last: u64) -> bool
     ensures { result ≡ pair_fits first last }
 {
-    if 4294967296 <= first {
-        return false;
-    }
-    if 4294967296 <= last {
-        return false;
-    }
-    first <= last
+    first < 4294967296 && last < 4294967296 && first <= last
 }
 
 // Stores first and last of the range with index n.
@@ -196,50 +132,34 @@ fn put_range(numbers: &mut [u32], n: usize, first: u32, last: u32)
 
 // The item reader: an item stands at place `at`, n ranges are read before it, and the list reader goes on behind it.
 #[cycle(read_item_read_list)]
-fn read_item(s: &[u8], at: usize, numbers: &mut [u32], n: usize) -> LineRead
+fn read_item(s: &[u8], at: usize, numbers: &mut [u32], n: usize) -> Result<usize, Refusal>
     requires { (at ≤ length s.now) × Held numbers.old n }
     ensures { line_told result numbers.new ≡ read_on (take n (held_ranges numbers.old)) (list_at 0 at (drop at s.now)) }
 {
-    match item_at(s, at) {
-        ItemRead::Broken(q) => refuse(q),
-        ItemRead::Item { first, last, size } => {
-            let next = at + size;
-            if n == 32 {
-                return fault(s, at, next);
-            }
-            if !fits(first, last) {
-                return fault(s, at, next);
-            }
-            put_range(numbers, n, first as u32, last as u32);
-            read_list(s, next, numbers, n + 1)
-        }
+    let item = item_at(s, at)?;
+    let next = at + item.size;
+    if n == 32 || !fits(item.first, item.last) {
+        return fault(s, at, next);
     }
+    put_range(numbers, n, item.first as u32, item.last as u32);
+    read_list(s, next, numbers, n + 1)
 }
 
 // The list reader: n ranges are read, the last of them up to place `at`. It stands alone there, or a comma follows and the item reader goes on.
 #[cycle(read_item_read_list)]
-fn read_list(s: &[u8], at: usize, numbers: &mut [u32], n: usize) -> LineRead
+fn read_list(s: &[u8], at: usize, numbers: &mut [u32], n: usize) -> Result<usize, Refusal>
     requires { (at ≤ length s.now) × Held numbers.old n }
     ensures { line_told result numbers.new ≡ read_on (take n (held_ranges numbers.old)) (rest_at at (drop at s.now)) }
 {
     if at == s.len() {
-        return LineRead::Ranges(n);
+        return Ok(n);
     }
     if s[at] != 44 {
-        return refuse(at);
+        return refuse(Why::Text, at);
     }
     // Handed on as a whole, it would be copied with the bytes that no case uses, and each item would wait for that: lines of many ranges took a half longer.
-    match read_item(s, at + 1, numbers, n) {
-        LineRead::Ranges(count) => LineRead::Ranges(count),
-        LineRead::Refused(f) => LineRead::Refused(f),
-    }
-}
-
-// A range that is all zero.
-fn no_ids() -> IdRange
-    ensures { result ≡ no_ids }
-{
-    IdRange { first: 0, last: 0 }
+    let count = read_item(s, at + 1, numbers, n)?;
+    Ok(count)
 }
 
 // The range with index i, of ranges of which first and last are lent.
@@ -259,45 +179,26 @@ fn ranges_of(ends: &[u32]) -> [IdRange; 32]
     requires { length ends.now ≡ 64 }
     ensures { result ≡ ranges_in 32 ends.now }
 {
-    let mut ranges = [no_ids(); 32];
-    let mut i: usize = 0;
-    while i < 32 {
+    let mut ranges = [IdRange { first: 0, last: 0 }; 32];
+    for i in 0..32 {
         ranges[i] = range_at(ends, i);
-        i += 1;
     }
     ranges
 }
 
-// A line that is refused.
-fn refused_line(f: Refusal) -> IdsRead
-    ensures { told result ≡ answer (refused f) }
-{
-    IdsRead {
-        answer: IdsAnswer::Refused(f),
-        ranges: [no_ids(); 32],
-        count: 0,
-    }
-}
-
 // The ranges of a line of ids.
-pub fn read_ids(line: &[u8]) -> IdsRead
+pub fn read_ids(line: &[u8]) -> Result<Ids, Refusal>
     ensures { told result ≡ answer (read_ids line.now) }
 {
     if 65536 < line.len() {
-        return refused_line(Refusal {
-            why: Why::Large,
-            place: 65536,
-        });
+        return refuse(Why::Large, 65536);
     }
     let mut numbers = [0u32; 64];
-    match read_item(line, 0, &mut numbers, 0) {
-        LineRead::Refused(f) => refused_line(f),
-        LineRead::Ranges(count) => IdsRead {
-            answer: IdsAnswer::Good,
-            ranges: ranges_of(&numbers),
-            count,
-        },
-    }
+    let count = read_item(line, 0, &mut numbers, 0)?;
+    Ok(Ids {
+        ranges: ranges_of(&numbers),
+        count,
+    })
 }
 
 // How many digits n has in decimal.
@@ -350,30 +251,21 @@ fn put_item(out: &mut [u8], at: usize, r: IdRange) -> usize
     put_id(out, end + 1, r.last)
 }
 
-// Whether ranges may be written, or the index of the first that may not.
-#[derive(Clone, Copy)]
-enum Order {
-    Kept,
-    Bad(usize),
-}
-
 // No range is inverted, and none is the 33rd.
-fn order_of(ends: &[u32], n: usize) -> Order
+fn order_of(ends: &[u32], n: usize) -> Result<(), Refusal>
     requires { length ends.now ≡ 64 }
-    ensures { told_order result ≡ ranges_kept 0 (handed_over n (ranges_in 32 ends.now)) }
+    ensures { outcome_of result ≡ ranges_kept 0 (handed_over n (ranges_in 32 ends.now)) }
 {
-    let mut i: usize = 0;
-    while i < n {
+    for i in 0..n {
         if i == 32 {
-            return Order::Bad(i);
+            return refuse(Why::Text, i);
         }
         let r = range_at(ends, i);
         if r.last < r.first {
-            return Order::Bad(i);
+            return refuse(Why::Text, i);
         }
-        i += 1;
     }
-    Order::Kept
+    Ok(())
 }
 
 // How many bytes the line of the first n ranges has.
@@ -382,10 +274,8 @@ fn line_len(ends: &[u32], n: usize) -> usize
     ensures { result ≡ length (line_text (map range_in (take n (ranges_in 32 ends.now)))) }
 {
     let mut len = item_len(range_at(ends, 0));
-    let mut i: usize = 1;
-    while i < n {
+    for i in 1..n {
         len = len + 1 + item_len(range_at(ends, i));
-        i += 1;
     }
     len
 }
@@ -396,41 +286,26 @@ fn put_line(out: &mut [u8], ends: &[u32], n: usize)
     ensures { out.new ≡ sets out.old 0 (line_text (map range_in (take n (ranges_in 32 ends.now)))) }
 {
     let mut at = put_item(out, 0, range_at(ends, 0));
-    let mut i: usize = 1;
-    while i < n {
+    for i in 1..n {
         put_byte(out, at, 44);
         at = put_item(out, at + 1, range_at(ends, i));
-        i += 1;
     }
 }
 
 // Writes ranges as a line, the first `count` of those of which first and last are lent. A 33rd is refused, whatever it would be.
-pub fn write_ends(ends: &[u32; 64], count: usize, out: &mut [u8]) -> Written
+pub fn write_ends(ends: &[u32; 64], count: usize, out: &mut [u8]) -> Result<usize, Refusal>
     ensures { compose.told result out.new ≡ write_ids (handed_over count (ranges_in 32 ends.now)) out.old }
 {
     if count == 0 {
-        return Written::Refused(Refusal {
-            why: Why::Text,
-            place: 0,
-        });
+        return refuse(Why::Text, 0);
     }
-    match order_of(ends, count) {
-        Order::Bad(i) => Written::Refused(Refusal {
-            why: Why::Text,
-            place: i,
-        }),
-        Order::Kept => {
-            let bytes = line_len(ends, count);
-            if out.len() < bytes {
-                return Written::Refused(Refusal {
-                    why: Why::Room,
-                    place: bytes,
-                });
-            }
-            put_line(out, ends, count);
-            Written::Done { bytes }
-        }
+    order_of(ends, count)?;
+    let bytes = line_len(ends, count);
+    if out.len() < bytes {
+        return refuse(Why::Room, bytes);
     }
+    put_line(out, ends, count);
+    Ok(bytes)
 }
 
 // First and last of 32 ranges, in turn.
@@ -438,17 +313,15 @@ fn ends_of(ranges: [IdRange; 32]) -> [u32; 64]
     ensures { ranges_in 32 result ≡ ranges }
 {
     let mut ends = [0u32; 64];
-    let mut i: usize = 0;
-    while i < 32 {
+    for i in 0..32 {
         let r = ranges[i];
         put_range(&mut ends, i, r.first, r.last);
-        i += 1;
     }
     ends
 }
 
 // Writes ranges as a line, the first `count` of the array.
-pub fn write_ids(ranges: [IdRange; 32], count: usize, out: &mut [u8]) -> Written
+pub fn write_ids(ranges: [IdRange; 32], count: usize, out: &mut [u8]) -> Result<usize, Refusal>
     ensures { compose.told result out.new ≡ write_ids (handed_over count ranges) out.old }
 {
     let ends = ends_of(ranges);

@@ -28,8 +28,7 @@ use Rattle.message.proofs.Messages.{by_bytes, framing, here}
 use Rattle.message.specs.Answers.{tested_in, head_of, with_run, no_header, header_of, eight_and_nine, head_of_header, told_header, Opened, spot_behind_run, told_message, checked_run, front_run, header_in, front_at, payload_from, next_from}
 use Rattle.message.specs.declared.Tested.{Tested}
 use Rattle.message.specs.declared.Header.{Header}
-use Rattle.message.specs.declared.HeaderRead.TheVariants as headerRead
-use Rattle.message.specs.declared.MessageRead.TheVariants as messageRead
+use Rattle.std.specs.Prelude.{Ok, Err}
 
 -- ---- checks 1 to 9 of the message at the start of s
 module _ (p : ℕ) (s : List ℕ) where
@@ -83,10 +82,11 @@ module _ (s : List ℕ) (p : ℕ) where
     pub seven-there : (nine : Bool) → nine ≡ false → {o : Outcome ℕ} → o ≡ option_run_length p from (head from) → o ≡ checked_run s p nine
     seven-there nine t e = rw t (seven_at (rw rest at e))
 
-    module _ (nine : Bool) (t : nine ≡ true) where
-      pub not_seven_there : {n q : ℕ} → bad n q ≡ option_run_length p from (head from) → bad n q ≡ checked_run s p nine
-      not_seven_there e = rw t (nine-at (not_seven p (drop p s) (rw rest at e)))
+    pub not_seven_there : (nine : Bool) {n q : ℕ} → bad n q ≡ option_run_length p from (head from) → bad n q ≡ checked_run s p nine
+    not_seven_there false e = seven_at (rw rest at e)
+    not_seven_there true e = nine-at (not_seven p (drop p s) (rw rest at e))
 
+    module _ (nine : Bool) (t : nine ≡ true) where
       module _ (h : Header) (n : ℕ) (eh : h ≡ header_of from n) (e : good n ≡ option_run_length p from (head from)) where
         pub not_nine_there : {m q : ℕ} → bad m q ≡ eight_and_nine p (head_of_header h) → bad m q ≡ checked_run s p nine
         not_nine_there g = rw t (nine-at (rw rest at (not_nine p from h n eh e g)))
@@ -134,7 +134,7 @@ module _ (s : List ℕ) (p : ℕ) where
     its : Headed p (drop p s) h
     its = headed p (drop p s) n h seven_is there
 
-    pub front-good : told_header (headerRead.Header h) ≡ front_at s p
+    pub front-good : told_header (Ok h) ≡ front_at s p
     unfolding front_run front_at
     front-good =
         let (a, g) = passed _ _ _ _ (sym e) in
@@ -229,7 +229,7 @@ pub record Known (s : List ℕ) (k : ℕ) (h : Header) : Type 0 where
   pub nine : checks_one_to_nine k (drop k s) (head (drop k s)) ≡ good h.run
   pub same : head_of_header h ≡ head (drop k s)
 
-pub known : (s : List ℕ) (k : ℕ) (h : Header) → told_header (headerRead.Header h) ≡ front_at s k → Known s k h
+pub known : (s : List ℕ) (k : ℕ) (h : Header) → told_header (Ok h) ≡ front_at s k → Known s k h
 unfolding front_at
 known s k h e =
     let (a, g) = passed _ _ _ _ (sym e) in
@@ -310,7 +310,7 @@ module _ (s : List ℕ) (k : ℕ) (h : Header) where
       told-count x = told-bad (other k t (head t) h.run f.nine cs cut-there (rw options-are at x))
 
       told-good : differs (count_said options) (length cs) ≡ false
-          → told_message (messageRead.Message (record { header = h; payload = payload_from k h; next = next_from k h; packages = length cs })) ≡ message_at s k
+          → told_message (Ok (record { header = h; payload = payload_from k h; next = next_from k h; packages = length cs })) ≡ message_at s k
       unfolding message_at message_spot
       told-good x =
           sym
@@ -323,7 +323,7 @@ module _ (s : List ℕ) (k : ℕ) (h : Header) where
         let c : cut (payload_from k h) (payload t (head t)) ≡ bad n (payload_from k h + i) = cut-bad (payload_from k h) (payload t (head t)) (rw lent_is at e) in
         told-bad (uncut k t (head t) h.run f.nine (rw payload-at c))
 
-  module _ (e : told_header (headerRead.Header h) ≡ front_at s k) where
+  module _ (e : told_header (Ok h) ≡ front_at s k) where
     pub fronted : Fronted s k h
     fronted = in_order (known s k h e)
 
@@ -332,18 +332,18 @@ module _ (s : List ℕ) (k : ℕ) (h : Header) where
     front-uncut {i = i} c = told_package_lem (known s k h e) i c
 
     pub front_package : (i : ℕ) → cut 0 (take (next_from k h - payload_from k h) (drop (payload_from k h) s)) ≡ bad PACKAGE i
-        → told_message (messageRead.Refused (record { why = why.Package; place = payload_from k h + i })) ≡ message_at s k
+        → told_message (Err (record { why = why.Package; place = payload_from k h + i })) ≡ message_at s k
     front_package i c = told_package_lem (known s k h e) i c
 
     module _ (cs : List (List ℕ)) (c : cut 0 (take (next_from k h - payload_from k h) (drop (payload_from k h) s)) ≡ good cs) where
       -- its option run says another number of packages
       pub front-count : differs (count_said (take (k + 24 + h.run - (k + 24)) (drop (k + 24) s))) (length cs) ≡ true
-          → told_message (messageRead.Refused (record { why = why.Count; place = k })) ≡ message_at s k
+          → told_message (Err (record { why = why.Count; place = k })) ≡ message_at s k
       front-count x = told-count (known s k h e) cs c x
 
       -- it passes
       pub front-message : differs (count_said (take (k + 24 + h.run - (k + 24)) (drop (k + 24) s))) (length cs) ≡ false
-          → told_message (messageRead.Message (record { header = h; payload = payload_from k h; next = next_from k h; packages = length cs })) ≡ message_at s k
+          → told_message (Ok (record { header = h; payload = payload_from k h; next = next_from k h; packages = length cs })) ≡ message_at s k
       front-message x = told-good (known s k h e) cs c x
 
 -- ---- for a caller that needs nothing of the option run

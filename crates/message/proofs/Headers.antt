@@ -18,7 +18,7 @@ use Rattle.message.specs.Answers.{tested_in, head_of, with_run, header_of, head_
 use Rattle.rules.specs.Reading.{option_run, option_start}
 use Rattle.message.specs.declared.Tested.{Tested}
 use Rattle.message.specs.declared.Header.{Header}
-use Rattle.message.specs.declared.HeaderRead.TheVariants as headerRead
+use Rattle.std.specs.Prelude.{Ok}
 
 module _ (p : ℕ) (s : List ℕ) (h : Head) where
   pub gate_shut : {n q : ℕ} → bad n q ≡ checks_one_to_six p s h → bad n q ≡ option_run_length p s h
@@ -78,7 +78,7 @@ module _ (s : List ℕ) where
   unfolding header checked_run
   not_alone e = sym (refused_alike _ _ _ _ _ (λ z. stop _ _ z) (sym e))
 
-  pub alone : (n : ℕ) (h : Header) → good n ≡ checked_run s 0 false → h ≡ header_of s n → told_header (headerRead.Header h) ≡ header s
+  pub alone : (n : ℕ) (h : Header) → good n ≡ checked_run s 0 false → h ≡ header_of s n → told_header (Ok h) ≡ header s
   unfolding header checked_run
   alone n h e eh =
       let (a, g) = passed _ _ _ _ (sym e) in

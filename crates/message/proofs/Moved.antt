@@ -15,17 +15,18 @@ use Rattle.rules.specs.Packages.{package_header, package_length, package_fits, p
 use Rattle.rules.specs.Walk.{PackageSpot, package_spot, package_at}
 use Rattle.rules.proofs.Outcomes.{pass}
 use Rattle.message.specs.declared.Package.{Package}
-use Rattle.message.specs.declared.PackageRead.{PackageRead}
-use Rattle.message.specs.declared.PackageRead.TheVariants as packageRead
+use Rattle.std.specs.Prelude.{Some, None, Result, Ok, Err}
+use Rattle.std.specs.Prelude as std
+use Rattle.refusal.specs.declared.Refusal.{Refusal}
 use Rattle.message.specs.Answers.{told_package}
 
 abbrev pub moved : ℕ → Package → Package
 moved k p = record { id = p.id; length = p.length; status = p.status; delta = p.delta; from = k + p.from; to = k + p.to; next = k + p.next }
 
-abbrev pub moved_read : ℕ → PackageRead → PackageRead
-moved_read k (packageRead.Package p) = packageRead.Package (moved k p)
-moved_read k packageRead.End = packageRead.End
-moved_read k (packageRead.Refused f) = packageRead.Refused (record { why = f.why; place = k + f.place })
+abbrev pub moved_read : ℕ → Result (std.Option Package) Refusal → Result (std.Option Package) Refusal
+moved_read k (Ok (Some p)) = Ok (Some (moved k p))
+moved_read k (Ok None) = Ok None
+moved_read k (Err f) = Err (record { why = f.why; place = k + f.place })
 
 -- what is found, k bytes on
 shifted : ℕ → Outcome (Option PackageSpot) → Outcome (Option PackageSpot)
@@ -33,11 +34,11 @@ shifted k (good none) = good none
 shifted k (good (some s)) = good (some (record { id = s.id; size = s.size; status = s.status; delta = s.delta; from = k + s.from; to = k + s.to; next = k + s.next }))
 shifted k (bad n p) = bad n (k + p)
 
-told_moved : (k : ℕ) (x : PackageRead) → told_package (moved_read k x) ≡ shifted k (told_package x)
+told_moved : (k : ℕ) (x : Result (std.Option Package) Refusal) → told_package (moved_read k x) ≡ shifted k (told_package x)
 unfolding shifted
-told_moved k (packageRead.Package p) = refl
-told_moved k packageRead.End = refl
-told_moved k (packageRead.Refused f) = refl
+told_moved k (Ok (Some p)) = refl
+told_moved k (Ok None) = refl
+told_moved k (Err f) = refl
 
 abbrev Spotted : ℕ → List ℕ → Outcome (Option PackageSpot)
 Spotted k t = piece k t >>= λ (r : List ℕ × ℕ). good (some (package_spot k r.0 r.1))
@@ -72,5 +73,5 @@ module _ (run : List ℕ) (k : ℕ) where
       go true = refl
       go false = spot-shifted k (drop k run)
 
-  pub read-moved : length run ≤ 65536 → (x : PackageRead) → told_package x ≡ package_at (drop k run) 0 → told_package (moved_read k x) ≡ package_at run k
+  pub read-moved : length run ≤ 65536 → (x : Result (std.Option Package) Refusal) → told_package x ≡ package_at (drop k run) 0 → told_package (moved_read k x) ≡ package_at run k
   read-moved l x e = told_moved k x ∙ ap (shifted k) e ∙ found-shifted l

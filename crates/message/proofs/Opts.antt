@@ -1,5 +1,5 @@
 -- Options: the sizes that a kind may have, what stands at the start of option bytes, and the loop over them.
-use Prim.Native.Nat.{ℕ, zero, suc, ◌+◌, ◌-◌, ◌≤◌, ◌<◌}
+use Prim.Native.Nat.{ℕ, suc, ◌+◌, ◌-◌, ◌≤◌, ◌<◌}
 use mathlib.Core.Path.{◌≡◌, refl, ap, sym, ◌∙◌}
 use mathlib.Core.Logic.{◌⊎◌, inl, inr, ⊎_elim}
 use mathlib.Core.Bool.{Bool, true, false, ◌&&◌}
@@ -7,14 +7,14 @@ use mathlib.Core.List.{List, [], ◌∷◌}
 use mathlib.Core.Option.{Option, none, some}
 use native.Mathlib.Nat.{add-zero, pos_of_ne-zero}
 use native.Mathlib.Omega.{arith}
-use borrow.Author.Tests.{eq-eqb, ne_eqb, eqb-true, eqb-false, leb-true, lt-ltb, le-ltb, le-leb, lt-leb}
+use borrow.Author.Tests.{eq-eqb, ne_eqb, eqb-true, eqb-false, leb-true, lt-ltb}
 use lib.Dec.{leb, ltb, eqb}
 use lib.ListN.{length, take, drop, length-drop, drop_of_length-le}
 use lib.Seq.{get_or-drop, drop-drop}
 use Rattle.rules.specs.Outcome.{good, bad, OPTION}
 use Rattle.rules.specs.Bytes.{at, word}
 use Rattle.rules.specs.Items as items
-use Rattle.rules.specs.Options.{length_allowed, option_size, option_fits, is_second, option_run_from, count_said_from, count_said}
+use Rattle.rules.specs.Options.{option_size, option_fits, is_second, option_run_from, count_said_from, count_said}
 use Rattle.rules.proofs.Outcomes.{pass, halt}
 use Rattle.rules.proofs.Run.{bounds}
 use Rattle.rules.proofs.Wholes.{only_two}
@@ -25,99 +25,8 @@ use Rattle.message.specs.declared.Seen.{Seen}
 use Rattle.message.specs.declared.Opt.{Opt}
 use Rattle.message.specs.declared.Opt.TheVariants.{Ends, Takes, Bad}
 
--- ---- sizes
-
-module _ (k n : ℕ) where
-  pub under : n < 2 → false ≡ length_allowed k n
-  unfolding length_allowed
-  under a = rw (lt-leb 2 n a)
-
-  pub over : 2 ≤ n → 60 < n → false ≡ length_allowed k n
-  unfolding length_allowed
-  over a b = rw (le-leb 2 n a, lt-leb n 60 b)
-
-  module _ (a : 2 ≤ n) (b : n ≤ 60) where
-    pub general : k < 0x82 → true ≡ length_allowed k n
-    unfolding length_allowed
-    general c = rw (le-leb 2 n a, le-leb n 60 b, lt-leb 0x82 k c, ne_eqb k 0x85 (λ z. omega arith), lt-leb 0x86 k (omega arith))
-
-    module _ (c : 0x82 ≤ k) (d : k ≤ 0x84) where
-      pub short-text : n < 3 → false ≡ length_allowed k n
-      unfolding length_allowed
-      short-text e = rw (le-leb 2 n a, le-leb n 60 b, le-leb 0x82 k c, le-leb k 0x84 d, lt-leb 3 n e)
-
-      pub text : 3 ≤ n → leb n 32 ≡ length_allowed k n
-      unfolding length_allowed
-      text e = rw (le-leb 2 n a, le-leb n 60 b, le-leb 0x82 k c, le-leb k 0x84 d, le-leb 3 n e)
-
-    module _ (c : 0x84 < k) where
-      pub six : k ≡ 0x85 → n ≡ 6 → true ≡ length_allowed k n
-      unfolding length_allowed
-      six d e = rw (le-leb 2 n a, le-leb n 60 b, le-leb 0x82 k (omega arith), lt-leb k 0x84 c, eq-eqb k 0x85 d, eq-eqb n 6 e)
-
-      pub eighteen : k ≡ 0x85 → (n ≡ 6 → ⊥) → eqb n 18 ≡ length_allowed k n
-      unfolding length_allowed
-      eighteen d e = rw (le-leb 2 n a, le-leb n 60 b, le-leb 0x82 k (omega arith), lt-leb k 0x84 c, eq-eqb k 0x85 d, ne_eqb n 6 e)
-
-      module _ (d : k ≡ 0x85 → ⊥) where
-        pub fixed : k ≤ 0x87 → eqb n 6 ≡ length_allowed k n
-        unfolding length_allowed
-        fixed e =
-            let f : 0x86 ≤ k = at_least e in
-            rw (le-leb 2 n a, le-leb n 60 b, le-leb 0x82 k (omega arith), lt-leb k 0x84 c, ne_eqb k 0x85 d, le-leb 0x86 k f, le-leb k 0x87 e)
-          where
-            at_least : k ≤ 0x87 → 0x86 ≤ k
-            at_least e = go (eqb k 0x85) refl
-              where
-                go : (t : Bool) → eqb k 0x85 ≡ t → 0x86 ≤ k
-                go true t = absurd (d (eqb-true _ _ t))
-                go false t = omega (arith, d)
-
-        pub other : 0x87 < k → true ≡ length_allowed k n
-        unfolding length_allowed
-        other e = rw (le-leb 2 n a, le-leb n 60 b, le-leb 0x82 k (omega arith), lt-leb k 0x84 c, ne_eqb k 0x85 d, le-leb 0x86 k (omega arith), lt-leb k 0x87 e)
-
 -- ---- what stands at the start
 
-module _ (o : List ℕ) (k : ℕ) (ek : k ≡ at o 0) where
-  pub ends : k ≡ 0 → Ends ≡ option_here o
-  unfolding option_here
-  ends e = rw (eq-eqb (at o 0) 0 (sym ek ∙ e), option_here)
-
-  module _ (a : k ≡ 0 → ⊥) where
-    some-kind : eqb (at o 0) 0 ≡ false
-    some-kind = ne_eqb (at o 0) 0 (λ z. a (ek ∙ z))
-
-    pub one : k < 0x80 → Takes 1 ≡ option_here o
-    unfolding option_here option_fits option_size
-    one b =
-        let e : ltb (at o 0) 0x80 ≡ true = lt-ltb (at o 0) 0x80 (omega arith) in
-        let z : option_size o ≡ 1 = rw (e, option_size) in
-        rw (some-kind, e, option_here, option_fits) (rw z)
-
-    module _ (b : 0x80 ≤ k) (n : ℕ) (en : n ≡ at o 1) where
-      pub not_sized : length_allowed k n ≡ false → Bad ≡ option_here o
-      unfolding option_here option_fits
-      not_sized e =
-          let f : length_allowed (at o 0) (at o 1) ≡ false = rw (← ek, ← en) e in
-          rw (some-kind, le-ltb (at o 0) 0x80 (omega arith), f, option_here, option_fits)
-
-      module _ (z : ℕ) (ez : z ≡ n) (g : length_allowed k n ≡ true) where
-        good-size : length_allowed (at o 0) (at o 1) ≡ true
-        good-size = rw (← ek, ← en) g
-
-        pub too_long : length o < z → Bad ≡ option_here o
-        unfolding option_here option_fits
-        too_long e = rw (some-kind, le-ltb (at o 0) 0x80 (omega arith), good-size, lt-leb (at o 1) (length o) (omega arith), option_here, option_fits)
-
-        pub fitting : z ≤ length o → Takes z ≡ option_here o
-        unfolding option_here option_fits option_size
-        fitting e =
-            let f : ltb (at o 0) 0x80 ≡ false = le-ltb (at o 0) 0x80 (omega arith) in
-            let i : option_size o ≡ at o 1 = rw (f, option_size) in
-            rw (some-kind, f, good-size, le-leb (at o 1) (length o) (omega arith), ez ∙ en, option_here, option_fits) (rw i)
-
--- and backwards
 pub record Taking (o : List ℕ) (n : ℕ) : Type 0 where
   pub kind : 0 < at o 0
   pub fits : option_fits o ≡ true
@@ -170,33 +79,6 @@ broken o e = go (eqb (at o 0) 0) refl (option_fits o) refl
 
 -- ---- no second 0x86 and no second 0x87
 
--- the code's two tests, by the kind
-module _ (seen : Seen) (k : ℕ) where
-  pub second_86 : k ≡ 0x86 → seen.offset ≡ second_by seen k
-  unfolding second_by
-  second_86 e = rw (eq-eqb k 0x86 e, second_by)
-
-  pub with_86 : k ≡ 0x86 → record { offset = true; count = seen.count } ≡ with_kind seen k
-  unfolding with_kind
-  with_86 e = rw (eq-eqb k 0x86 e, with_kind)
-
-  module _ (n : k ≡ 0x86 → ⊥) where
-    pub second_87 : k ≡ 0x87 → seen.count ≡ second_by seen k
-    unfolding second_by
-    second_87 e = rw (ne_eqb k 0x86 n, eq-eqb k 0x87 e, second_by)
-
-    pub with_87 : k ≡ 0x87 → record { offset = seen.offset; count = true } ≡ with_kind seen k
-    unfolding with_kind
-    with_87 e = rw (ne_eqb k 0x86 n, eq-eqb k 0x87 e, with_kind)
-
-    pub second-other : (k ≡ 0x87 → ⊥) → false ≡ second_by seen k
-    unfolding second_by
-    second-other m = rw (ne_eqb k 0x86 n, ne_eqb k 0x87 m, second_by)
-
-    pub with-other : (k ≡ 0x87 → ⊥) → seen ≡ with_kind seen k
-    unfolding with_kind
-    with-other m = rw (ne_eqb k 0x86 n, ne_eqb k 0x87 m, with_kind)
-
 -- what has been seen of the kinds
 pub record Told (seen : Seen) (kinds : List ℕ) : Type 0 where
   pub offset : seen.offset ≡ ltb 0 (items.count 0x86 kinds)
@@ -236,11 +118,6 @@ module _ (seen : Seen) (kinds : List ℕ) (t : Told seen kinds) (k : ℕ) where
           let a : eqb 0x86 k ≡ false = ne_eqb 0x86 k (λ z. eqb-false k 0x86 e (sym z)) in
           let b : eqb 0x87 k ≡ false = ne_eqb 0x87 k (λ z. eqb-false k 0x87 f (sym z)) in
           rw (e, f, with_kind) (record { offset = rw (a, items.count) t.offset; count = rw (b, items.count) t.count })
-
--- what the option at the start says, if it is no second one
-pub by-here : (seen : Seen) (o : List ℕ) (b : Bool) → b ≡ second_by seen (at o 0) → (x : Opt) → x ≡ option_here o → unless_second b x ≡ option_next seen o
-unfolding option_next
-by-here seen o b e x f = rw (e, f)
 
 next-takes : (b : Bool) (x : Opt) (n : ℕ) → Takes n ≡ unless_second b x → (b ≡ false) × (x ≡ Takes n)
 next-takes true Ends n e = let z : ◌≡◌ {A = ℕ} 0 1 = cc in absurd (omega arith)
@@ -333,24 +210,6 @@ unfolding option_run_from
 all p o i seen r l = sym (r.same ∙ rw (drop_of_length-le o l))
 
 -- ---- what option 0x87 says
-
-module _ (o : List ℕ) (k : ℕ) (ek : k ≡ at o 0) where
-  pub step-one : k < 0x80 → (1 ≡ option_step o) × (1 < 257)
-  unfolding option_step option_size
-  step-one a = (rw (← ek, lt-ltb k 0x80 a, option_size), omega arith)
-
-  module _ (a : 0x80 ≤ k) (n : ℕ) (en : n ≡ at o 1) where
-    pub step-none : n ≡ 0 → (1 ≡ option_step o) × (1 < 257)
-    unfolding option_step option_size
-    step-none z = (rw (← ek, le-ltb k 0x80 a, ← en, z, option_size), omega arith)
-
-    pub step-long : (n ≡ 0 → ⊥) → n < 256 → (n ≡ option_step o) × (n < 257)
-    unfolding option_step option_size
-    step-long z l = (rw (← ek, le-ltb k 0x80 a, ← en, option_size) (pos n z), omega arith)
-      where
-        pos : (m : ℕ) → (m ≡ 0 → ⊥) → m ≡ suc (m - 1)
-        pos zero z = absurd (z refl)
-        pos (suc m) z = omega arith
 
 pub least_by : (o : List ℕ) (n : ℕ) → n ≡ option_step o → 1 ≤ n
 unfolding option_step

@@ -1,5 +1,5 @@
 -- Packages: the piece that one takes, the one at a place of a run, and the loop over a payload.
-use Prim.Native.Nat.{ℕ, ◌+◌, ◌-◌, ◌*◌, ◌/◌, ◌≤◌, ◌<◌}
+use Prim.Native.Nat.{ℕ, ◌+◌, ◌-◌, ◌*◌, ◌≤◌, ◌<◌}
 use mathlib.Core.Path.{◌≡◌, refl, sym, ap, subst, ◌∙◌}
 use mathlib.Core.Bool.{Bool, true, false}
 use mathlib.Core.List.{List, [], ◌∷◌, ◌++◌}
@@ -19,33 +19,10 @@ use Rattle.rules.proofs.Cut.{fit}
 use Rattle.rules.proofs.Loops.{rest, Passing, passing-start, passing-next, passing-end, passing-bad}
 use Rattle.message.specs.Answers.{piece_here, cut_count}
 use Rattle.rules.specs.Walk.{PackageSpot, package_spot, package_at}
-use Rattle.message.specs.declared.Piece.TheVariants.{Takes, Bad}
+use Rattle.std.specs.Prelude.{Some, None}
 
 -- ---- the piece at the start of s
 
-module _ (s : List ℕ) where
-  pub tiny : length s < 12 → Bad ≡ piece_here s
-  unfolding piece_here package_fits
-  tiny a = rw (lt-leb 12 (length s) a, piece_here, package_fits)
-
-  module _ (a : 12 ≤ length s) (l : ℕ) (el : l ≡ half s 4) where
-    pub low : l < 12 → Bad ≡ piece_here s
-    unfolding piece_here package_fits
-    low b = rw (le-leb 12 (length s) a, lt-leb 12 (half s 4) (omega arith), piece_here, package_fits)
-
-    module _ (b : 12 ≤ l) (n : ℕ) (en : n ≡ (l + 3) / 4 * 4) where
-      same : n ≡ pad (half s 4)
-      same = rw (← el) en
-
-      pub long : length s < n → Bad ≡ piece_here s
-      unfolding piece_here package_fits
-      long c = rw (le-leb 12 (length s) a, le-leb 12 (half s 4) (omega arith), lt-leb (pad (half s 4)) (length s) (omega (arith, same)), piece_here, package_fits)
-
-      pub fitting : n ≤ length s → Takes n ≡ piece_here s
-      unfolding piece_here package_fits
-      fitting c = rw (le-leb 12 (length s) a, le-leb 12 (half s 4) (omega arith), le-leb (pad (half s 4)) (length s) (omega (arith, same)), same, piece_here, package_fits)
-
--- and backwards
 pub record Taking (s : List ℕ) (n : ℕ) : Type 0 where
   pub fits : package_fits s ≡ true
   pub size : n ≡ pad (half s 4)
@@ -58,26 +35,26 @@ taking s e =
     let f = fit s e in
     record { fits = e; size = refl; least = f.least; most = f.room; more = omega (arith, f.least) }
 
-pub takes : (s : List ℕ) (n : ℕ) → piece_here s ≡ Takes n → Taking s n
+pub takes : (s : List ℕ) (n : ℕ) → piece_here s ≡ Some n → Taking s n
 unfolding piece_here
 takes s n e = go (package_fits s) refl
   where
     go : (b : Bool) → package_fits s ≡ b → Taking s n
     go true t =
-        let f : Takes (pad (half s 4)) ≡ Takes n = rw (t, piece_here) at e in
+        let f : Some (pad (half s 4)) ≡ Some n = rw (t, piece_here) at e in
         let z : pad (half s 4) ≡ n = cc in
         rw (← z) (taking s t)
     go false t =
-        let f : Bad ≡ Takes n = rw (t, piece_here) at e in
+        let f : None ≡ Some n = rw (t, piece_here) at e in
         let z : ◌≡◌ {A = ℕ} 0 1 = cc in absurd (omega arith)
 
-pub broken : (s : List ℕ) → piece_here s ≡ Bad → package_fits s ≡ false
+pub broken : (s : List ℕ) → piece_here s ≡ None → package_fits s ≡ false
 unfolding piece_here
 broken s e = go (package_fits s) refl
   where
     go : (b : Bool) → package_fits s ≡ b → package_fits s ≡ false
     go true t =
-        let f : Takes (pad (half s 4)) ≡ Bad = rw (t, piece_here) at e in
+        let f : Some (pad (half s 4)) ≡ None = rw (t, piece_here) at e in
         let z : ◌≡◌ {A = ℕ} 0 1 = cc in absurd (omega arith)
     go false t = t
 
@@ -106,7 +83,7 @@ pub record Onward (p : ℕ) (s : List ℕ) (i n k : ℕ) : Type 0 where
   pub counting : Counting p s (i + k) (n + 1)
 
 module _ (p : ℕ) (s : List ℕ) (i n : ℕ) (c : Counting p s i n) where
-  pub next : (k : ℕ) → i < length s → Takes k ≡ piece_here (drop i s) → Onward p s i n k
+  pub next : (k : ℕ) → i < length s → Some k ≡ piece_here (drop i s) → Onward p s i n k
   next k l e =
       let t : Taking (drop i s) k = takes (drop i s) k (sym e) in
       record {
@@ -120,7 +97,7 @@ module _ (p : ℕ) (s : List ℕ) (i n : ℕ) (c : Counting p s i n) where
         };
       }
 
-  pub stopped : i < length s → Bad ≡ piece_here (drop i s) → bad PACKAGE (p + i) ≡ cut_count p s
+  pub stopped : i < length s → None ≡ piece_here (drop i s) → bad PACKAGE (p + i) ≡ cut_count p s
   unfolding cut_count
   stopped l e = sym (stop _ _ (passing-bad piece p s c.done i (p + i) c.doing l (piece-bad (p + i) (drop i s) (broken (drop i s) (sym e)))))
 
@@ -145,12 +122,12 @@ module _ (s : List ℕ) (p : ℕ) where
     over b = sym (pass _ _ _ _ (le-ltb 65536 (length s) a) (rw (le-leb (length s) p b)))
 
     module _ (b : p < length s) where
-      pub not_there : Bad ≡ piece_here (take (length s - p) (drop p s)) → bad PACKAGE p ≡ package_at s p
+      pub not_there : None ≡ piece_here (take (length s - p) (drop p s)) → bad PACKAGE p ≡ package_at s p
       unfolding package_at
       not_there e = sym (pass _ _ _ _ (le-ltb 65536 (length s) a) (rw (lt-leb (length s) p b) (stop _ _ (piece-bad p (drop p s) (broken (drop p s) (sym (rw rest at e)))))))
 
       -- c is what `&s[p..]` has
-      module _ (c : List ℕ) (ec : c ≡ take (length s - p) (drop p s)) (n : ℕ) (e : Takes n ≡ piece_here c) where
+      module _ (c : List ℕ) (ec : c ≡ take (length s - p) (drop p s)) (n : ℕ) (e : Some n ≡ piece_here c) where
         there-is : Taking (drop p s) n
         there-is = takes (drop p s) n (rw (← rest s p, ← ec) (sym e))
 

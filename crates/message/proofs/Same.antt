@@ -7,24 +7,18 @@ use denote.Ref.{Bor}
 use Rattle.rules.specs.Outcome.{Outcome, tells}
 use Rattle.rules.specs.Message.{Head}
 use Rattle.rules.specs.Claims.{TellsApart}
-use Rattle.rules.proofs.Outcomes.{good_inj, good≢bad, some_inj, none≢some}
-use Rattle.refusal.proofs.Numbers.{refused_injective}
-use Rattle.message.specs.Answers.{PartOf, head_of_header, told_header, no_head, header_numbers, spot_of_package, told_package, package_numbers, spot_of_message, told_message, no_message, message_numbers, told_count, count_numbers, told_check, check_numbers}
+use Rattle.std.specs.Prelude.{Result}
+use Rattle.std.specs.Prelude as std
+use Rattle.refusal.specs.declared.Refusal.{Refusal}
+use Rattle.refusal.specs.Numbers.{outcome_of, option_by}
+use Rattle.refusal.proofs.Numbers.{same_answer, option_back, option-back}
+use Rattle.message.specs.Answers.{PartOf, head_of_header, told_header, no_head, header_numbers, spot_of_package, told_package, package_numbers, spot_of_message, told_message, no_message, message_numbers, count_numbers, told_check, check_numbers}
 use Rattle.rules.specs.Walk.{PackageSpot}
 use Rattle.rules.specs.Reading.{MessageSpot}
 use Rattle.message.specs.declared.Header.{Header}
 use Rattle.message.specs.declared.Package.{Package}
 use Rattle.message.specs.declared.Message.{Message}
-use Rattle.message.specs.declared.HeaderRead.{HeaderRead}
-use Rattle.message.specs.declared.HeaderRead.TheVariants as headerRead
-use Rattle.message.specs.declared.PackageRead.{PackageRead}
-use Rattle.message.specs.declared.PackageRead.TheVariants as packageRead
-use Rattle.message.specs.declared.MessageRead.{MessageRead}
-use Rattle.message.specs.declared.MessageRead.TheVariants as messageRead
-use Rattle.message.specs.declared.Count.{Count}
-use Rattle.message.specs.declared.Count.TheVariants as count
-use Rattle.message.specs.declared.Checked.{Checked}
-use Rattle.message.specs.declared.Checked.TheVariants as checked
+use Rattle.message.specs.declared.Counts.{Counts}
 
 header_back : Head × ℕ → Header
 header_back r = record {
@@ -43,12 +37,7 @@ unfolding header_back
 header-back h = refl
 
 pub same_header : TellsApart told_header
-same_header (headerRead.Header h) (headerRead.Header g) e =
-    let q : ◌≡◌ {A = Head × ℕ} (head_of_header h, h.run) (head_of_header g, g.run) = good_inj e in
-    ap headerRead.Header (sym (header-back h) ∙ ap header_back q ∙ header-back g)
-same_header (headerRead.Header h) (headerRead.Refused r) e = absurd (good≢bad (sym e))
-same_header (headerRead.Refused r) (headerRead.Header h) e = absurd (good≢bad e)
-same_header (headerRead.Refused r) (headerRead.Refused q) e = ap headerRead.Refused (refused_injective r q e)
+same_header = same_answer (λ (h : Header). (head_of_header h, h.run)) header_back header-back
 
 package_back : PackageSpot → Package
 package_back k = record { id = record { 0 = k.id }; length = k.size; status = k.status; delta = k.delta; from = k.from; to = k.to; next = k.next }
@@ -58,16 +47,7 @@ unfolding package_back
 package_back_lem k = refl
 
 pub same_package : TellsApart told_package
-same_package (packageRead.Package k) (packageRead.Package l) e =
-    ap packageRead.Package (sym (package_back_lem k) ∙ ap package_back (some_inj (good_inj e)) ∙ package_back_lem l)
-same_package (packageRead.Package k) packageRead.End e = absurd (none≢some (sym (good_inj e)))
-same_package packageRead.End (packageRead.Package k) e = absurd (none≢some (good_inj e))
-same_package packageRead.End packageRead.End e = refl
-same_package (packageRead.Package k) (packageRead.Refused r) e = absurd (good≢bad (sym e))
-same_package packageRead.End (packageRead.Refused r) e = absurd (good≢bad (sym e))
-same_package (packageRead.Refused r) (packageRead.Package k) e = absurd (good≢bad e)
-same_package (packageRead.Refused r) packageRead.End e = absurd (good≢bad e)
-same_package (packageRead.Refused r) (packageRead.Refused q) e = ap packageRead.Refused (refused_injective r q e)
+same_package = same_answer (λ (o : std.Option Package). option_by spot_of_package o) (option_back package_back) (option-back spot_of_package package_back package_back_lem)
 
 message_back : MessageSpot → Message
 message_back d = record { header = header_back (d.head, d.run); payload = d.payload; next = d.next; packages = d.packages }
@@ -77,51 +57,33 @@ unfolding message_back header_back
 message-back m = refl
 
 pub same_message : TellsApart told_message
-same_message (messageRead.Message m) (messageRead.Message n) e =
-    ap messageRead.Message (sym (message-back m) ∙ ap message_back (good_inj e) ∙ message-back n)
-same_message (messageRead.Message m) (messageRead.Refused r) e = absurd (good≢bad (sym e))
-same_message (messageRead.Refused r) (messageRead.Message m) e = absurd (good≢bad e)
-same_message (messageRead.Refused r) (messageRead.Refused q) e = ap messageRead.Refused (refused_injective r q e)
+same_message = same_answer spot_of_message message_back message-back
 
-pub same_count : TellsApart told_count
-same_count (count.Number m) (count.Number n) e = ap count.Number (good_inj e)
-same_count (count.Number m) (count.Refused r) e = absurd (good≢bad (sym e))
-same_count (count.Refused r) (count.Number m) e = absurd (good≢bad e)
-same_count (count.Refused r) (count.Refused q) e = ap count.Refused (refused_injective r q e)
+counts_back : ℕ × ℕ → Counts
+counts_back n = record { messages = n.0; packages = n.1 }
 
-passed_of : ℕ × ℕ → Checked
-passed_of r = checked.Passed r.0 r.1
+counts-back : (n : Counts) → counts_back (n.messages, n.packages) ≡ n
+unfolding counts_back
+counts-back n = refl
 
 pub same_check : TellsApart told_check
-unfolding passed_of
-same_check (checked.Passed m n) (checked.Passed k l) e =
-    let q : ◌≡◌ {A = ℕ × ℕ} (m, n) (k, l) = good_inj e in
-    ap passed_of q
-same_check (checked.Passed m n) (checked.Refused r) e = absurd (good≢bad (sym e))
-same_check (checked.Refused r) (checked.Passed m n) e = absurd (good≢bad e)
-same_check (checked.Refused r) (checked.Refused q) e = ap checked.Refused (refused_injective r q e)
+same_check = same_answer (λ (n : Counts). (n.messages, n.packages)) counts_back counts-back
 
 -- By each promise `told r ≡ o` the answer's number, place and values are those of o, zero on a refusal.
-pub header-numbers : (r : HeaderRead) (o : Outcome (Head × ℕ)) → told_header r ≡ o → header_numbers r ≡ tells (no_head, 0) o
-header-numbers (headerRead.Header h) o e = ap (tells (no_head, 0)) e
-header-numbers (headerRead.Refused r) o e = ap (tells (no_head, 0)) e
+pub header-numbers : (r : Result Header Refusal) (o : Outcome (Head × ℕ)) → told_header r ≡ o → header_numbers r ≡ tells (no_head, 0) o
+header-numbers r o e = ap (tells (no_head, 0)) e
 
-pub package_numbers_lem : (r : PackageRead) (o : Outcome (Option PackageSpot)) → told_package r ≡ o → package_numbers r ≡ tells none o
-package_numbers_lem (packageRead.Package k) o e = ap (tells none) e
-package_numbers_lem packageRead.End o e = ap (tells none) e
-package_numbers_lem (packageRead.Refused r) o e = ap (tells none) e
+pub package_numbers_lem : (r : Result (std.Option Package) Refusal) (o : Outcome (Option PackageSpot)) → told_package r ≡ o → package_numbers r ≡ tells none o
+package_numbers_lem r o e = ap (tells none) e
 
-pub message-numbers : (r : MessageRead) (o : Outcome MessageSpot) → told_message r ≡ o → message_numbers r ≡ tells no_message o
-message-numbers (messageRead.Message m) o e = ap (tells no_message) e
-message-numbers (messageRead.Refused r) o e = ap (tells no_message) e
+pub message-numbers : (r : Result Message Refusal) (o : Outcome MessageSpot) → told_message r ≡ o → message_numbers r ≡ tells no_message o
+message-numbers r o e = ap (tells no_message) e
 
-pub check_numbers_lem : (r : Checked) (o : Outcome (ℕ × ℕ)) → told_check r ≡ o → check_numbers r ≡ tells (0, 0) o
-check_numbers_lem (checked.Passed m n) o e = ap (tells (0, 0)) e
-check_numbers_lem (checked.Refused r) o e = ap (tells (0, 0)) e
+pub check_numbers_lem : (r : Result Counts Refusal) (o : Outcome (ℕ × ℕ)) → told_check r ≡ o → check_numbers r ≡ tells (0, 0) o
+check_numbers_lem r o e = ap (tells (0, 0)) e
 
-pub count-numbers : (r : Count) (o : Outcome ℕ) → told_count r ≡ o → count_numbers r ≡ tells 0 o
-count-numbers (count.Number n) o e = ap (tells 0) e
-count-numbers (count.Refused r) o e = ap (tells 0) e
+pub count-numbers : (r : Result ℕ Refusal) (o : Outcome ℕ) → outcome_of r ≡ o → count_numbers r ≡ tells 0 o
+count-numbers r o e = ap (tells 0) e
 
 -- A part of the caller's bytes that is shown: its bytes and its place in memory are settled, and no program can see more.
 pub record SamePart (a b : Bor (List ℕ)) : Type 0 where

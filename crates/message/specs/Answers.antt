@@ -1,40 +1,25 @@
 -- What the answers of `message` stand for, and what its inner functions promise.
-use Rattle.std.specs.Prelude.{ℕ, suc, ◌+◌, ◌-◌, ◌*◌, ◌≤◌, ◌<◌, ◌≡◌, Bool, true, false, not, List, ltb, eqb, length, drop}
-use Rattle.std.proofs.Math.Option.{Option, none, some}
+use Rattle.std.specs.Prelude.{ℕ, suc, ◌+◌, ◌-◌, ◌*◌, ◌≤◌, ◌<◌, ◌≡◌, Bool, true, false, not, List, ltb, eqb, length, drop, Result}
+use Rattle.std.specs.Prelude as std
+use Rattle.std.proofs.Math.Option.{Option, none}
 use Rattle.std.specs.Borrow.{Bor}
-use Rattle.rules.specs.Outcome.{Outcome, good, refuse, ◌>>◌, ◌>>=◌, Told, FRAGMENT, STANDARD, COUNT}
+use Rattle.rules.specs.Outcome.{Outcome, good, refuse, ◌>>◌, ◌>>=◌, Told, tells, FRAGMENT, STANDARD, COUNT}
 use Rattle.rules.specs.Bytes.{at, half, pad, part}
 use Rattle.rules.specs.Options.{option_size, option_fits, count_said, differs}
 use Rattle.rules.specs.Packages.{package_fits, cut}
 use Rattle.rules.specs.Message.{header_bytes, not_large, Head, head, standard_bit, fragment_bits, payload_start, payload, option_run_length, checks_eight_and_nine, checks_one_to_nine, every_check}
 use Rattle.rules.specs.Reading.{MessageSpot, message_spot}
 use Rattle.rules.specs.Walk.{PackageSpot}
-use Rattle.refusal.specs.Numbers.{number_of, refused}
+use Rattle.refusal.specs.declared.Refusal.{Refusal}
+use Rattle.refusal.specs.Numbers.{outcome_by, outcome_of, option_by}
 use Rattle.message.specs.declared.Tested.{Tested}
 use Rattle.message.specs.declared.Header.{Header}
 use Rattle.message.specs.declared.Package.{Package}
 use Rattle.message.specs.declared.Message.{Message}
-use Rattle.message.specs.declared.Gate.{Gate}
-use Rattle.message.specs.declared.Gate.TheVariants.{Open, Shut}
-use Rattle.message.specs.declared.Count.{Count}
-use Rattle.message.specs.declared.Count.TheVariants as count
+use Rattle.message.specs.declared.Counts.{Counts}
 use Rattle.message.specs.declared.Opt.{Opt}
 use Rattle.message.specs.declared.Opt.TheVariants as opt
 use Rattle.message.specs.declared.Seen.{Seen}
-use Rattle.message.specs.declared.Said.{Said}
-use Rattle.message.specs.declared.Said.TheVariants as said
-use Rattle.message.specs.declared.Piece.{Piece}
-use Rattle.message.specs.declared.Piece.TheVariants as pieces
-use Rattle.message.specs.declared.HeaderRead.{HeaderRead}
-use Rattle.message.specs.declared.HeaderRead.TheVariants as headerRead
-use Rattle.message.specs.declared.PackageRead.{PackageRead}
-use Rattle.message.specs.declared.PackageRead.TheVariants as packageRead
-use Rattle.message.specs.declared.MessageRead.{MessageRead}
-use Rattle.message.specs.declared.MessageRead.TheVariants as messageRead
-use Rattle.message.specs.declared.Span.{Span}
-use Rattle.message.specs.declared.Span.TheVariants as span
-use Rattle.message.specs.declared.Checked.{Checked}
-use Rattle.message.specs.declared.Checked.TheVariants as checked
 
 -- ---- inside the crate
 
@@ -75,14 +60,6 @@ no_header = record { words = 0; flags = 0; id = record { 0 = 0 }; sequence = 0; 
 unfoldable pub header_of : List ℕ → ℕ → Header
 header_of s n = elim (ltb (length s) header_bytes) [ true ↦ no_header | false ↦ with_run (head s) n ]
 
-abbrev pub told_gate : Gate → Outcome (Unit {0})
-told_gate Open = good tt
-told_gate (Shut r) = refused r
-
-abbrev pub told_count : Count → Outcome ℕ
-told_count (count.Number n) = good n
-told_count (count.Refused r) = refused r
-
 -- what stands at the start of option bytes
 unfoldable pub option_here : List ℕ → Opt
 option_here o = elim (eqb (at o 0) 0) [
@@ -114,13 +91,9 @@ option_next seen o = unless_second (second_by seen (at o 0)) (option_here o)
 unfoldable pub option_step : List ℕ → ℕ
 option_step o = suc (option_size o - 1)
 
-abbrev pub told_said : Said → Option ℕ
-told_said said.Nothing = none
-told_said (said.Number c) = some c
-
 -- what the package at the start of s takes
-unfoldable pub piece_here : List ℕ → Piece
-piece_here s = elim (package_fits s) [ true ↦ pieces.Takes (pad (half s 4)) | false ↦ pieces.Bad ]
+unfoldable pub piece_here : List ℕ → std.Option ℕ
+piece_here s = elim (package_fits s) [ true ↦ std.Some (pad (half s 4)) | false ↦ std.None ]
 
 -- how many packages there are
 unfoldable pub cut_count : ℕ → List ℕ → Outcome ℕ
@@ -154,9 +127,8 @@ head_of_header h = record {
   nanos = h.nanos;
 }
 
-abbrev pub told_header : HeaderRead → Outcome (Head × ℕ)
-told_header (headerRead.Header h) = good (head_of_header h, h.run)
-told_header (headerRead.Refused r) = refused r
+abbrev pub told_header : Result Header Refusal → Outcome (Head × ℕ)
+told_header r = outcome_by (λ h. (head_of_header h, h.run)) r
 
 -- what a header that passes checks 1 to 9 leaves known of the message at the start of s, which stands at place p
 pub record Opened (s : List ℕ) (h : Header) (p : ℕ) : Type 0 where
@@ -170,9 +142,8 @@ pub record Opened (s : List ℕ) (h : Header) (p : ℕ) : Type 0 where
 abbrev pub no_head : Head
 no_head = record { version = 0; words = 0; kind = 0; flags = 0; id = 0; sequence = 0; size = 0; seconds = 0; nanos = 0 }
 
-abbrev pub header_numbers : HeaderRead → Told (Head × ℕ)
-header_numbers (headerRead.Header h) = record { number = 0; place = 0; values = (head_of_header h, h.run) }
-header_numbers (headerRead.Refused r) = record { number = number_of r.why; place = r.place; values = (no_head, 0) }
+abbrev pub header_numbers : Result Header Refusal → Told (Head × ℕ)
+header_numbers r = tells (no_head, 0) (told_header r)
 
 -- r is a part of s, and begins at its element k: it lies in the same memory, k bytes further on
 pub record PartOf (s : Bor (List ℕ)) (k : ℕ) (r : Bor (List ℕ)) : Type 0 where
@@ -184,16 +155,12 @@ pub record PartOf (s : Bor (List ℕ)) (k : ℕ) (r : Bor (List ℕ)) : Type 0 w
 abbrev pub spot_of_package : Package → PackageSpot
 spot_of_package k = record { id = k.id.0; size = k.length; status = k.status; delta = k.delta; from = k.from; to = k.to; next = k.next }
 
-abbrev pub told_package : PackageRead → Outcome (Option PackageSpot)
-told_package (packageRead.Package k) = good (some (spot_of_package k))
-told_package packageRead.End = good none
-told_package (packageRead.Refused r) = refused r
+abbrev pub told_package : Result (std.Option Package) Refusal → Outcome (Option PackageSpot)
+told_package r = outcome_by (λ o. option_by spot_of_package o) r
 
 -- at the end as on a refusal there is no package
-abbrev pub package_numbers : PackageRead → Told (Option PackageSpot)
-package_numbers (packageRead.Package k) = record { number = 0; place = 0; values = some (spot_of_package k) }
-package_numbers packageRead.End = record { number = 0; place = 0; values = none }
-package_numbers (packageRead.Refused r) = record { number = number_of r.why; place = r.place; values = none }
+abbrev pub package_numbers : Result (std.Option Package) Refusal → Told (Option PackageSpot)
+package_numbers r = tells none (told_package r)
 
 -- ---- a message in a recording
 
@@ -214,26 +181,20 @@ message_here p s = do
 abbrev pub spot_of_message : Message → MessageSpot
 spot_of_message m = record { head = head_of_header m.header; run = m.header.run; payload = m.payload; next = m.next; packages = m.packages }
 
-abbrev pub told_message : MessageRead → Outcome MessageSpot
-told_message (messageRead.Message m) = good (spot_of_message m)
-told_message (messageRead.Refused r) = refused r
+abbrev pub told_message : Result Message Refusal → Outcome MessageSpot
+told_message r = outcome_by spot_of_message r
 
 abbrev pub no_message : MessageSpot
 no_message = record { head = no_head; run = 0; payload = 0; next = 0; packages = 0 }
 
-abbrev pub message_numbers : MessageRead → Told MessageSpot
-message_numbers (messageRead.Message m) = record { number = 0; place = 0; values = spot_of_message m }
-message_numbers (messageRead.Refused r) = record { number = number_of r.why; place = r.place; values = no_message }
+abbrev pub message_numbers : Result Message Refusal → Told MessageSpot
+message_numbers r = tells no_message (told_message r)
 
 -- where a message ends, and how many packages it holds
 unfoldable pub span_of : Outcome MessageSpot → Outcome (ℕ × ℕ)
 span_of o = do
   m ← o
   good (m.next, m.packages)
-
-abbrev pub told_span : Span → Outcome (ℕ × ℕ)
-told_span (span.Message next packages) = good (next, packages)
-told_span (span.Refused r) = refused r
 
 -- ---- a message in a recording, its packages not looked at
 
@@ -269,16 +230,13 @@ next_from p h = p + h.length
 
 -- ---- a recording
 
-abbrev pub told_check : Checked → Outcome (ℕ × ℕ)
-told_check (checked.Passed m n) = good (m, n)
-told_check (checked.Refused r) = refused r
+abbrev pub told_check : Result Counts Refusal → Outcome (ℕ × ℕ)
+told_check r = outcome_by (λ n. (n.messages, n.packages)) r
 
-abbrev pub check_numbers : Checked → Told (ℕ × ℕ)
-check_numbers (checked.Passed m n) = record { number = 0; place = 0; values = (m, n) }
-check_numbers (checked.Refused r) = record { number = number_of r.why; place = r.place; values = (0, 0) }
+abbrev pub check_numbers : Result Counts Refusal → Told (ℕ × ℕ)
+check_numbers r = tells (0, 0) (told_check r)
 
 -- ---- a bare run
 
-abbrev pub count_numbers : Count → Told ℕ
-count_numbers (count.Number n) = record { number = 0; place = 0; values = n }
-count_numbers (count.Refused r) = record { number = number_of r.why; place = r.place; values = 0 }
+abbrev pub count_numbers : Result ℕ Refusal → Told ℕ
+count_numbers r = tells 0 (outcome_of r)

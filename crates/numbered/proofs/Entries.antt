@@ -23,7 +23,7 @@ use Rattle.rules.proofs.Growing.{granted_alike, released_snoc}
 use Rattle.rules.proofs.Loops.{Doing, doing_next}
 use Rattle.message.specs.declared.Header.{Header}
 use Rattle.message.specs.declared.Message.{Message}
-use Rattle.message.specs.declared.MessageRead.TheVariants as M
+use Rattle.std.specs.Prelude.{Ok}
 use Rattle.message.specs.Answers.{message_here, told_message}
 use Rattle.rules.specs.Reading.{MessageSpot, message_spot, message_at}
 use Rattle.numbered.specs.declared.Size.{Size}
@@ -55,7 +55,7 @@ pub record Met (recordingBytes : List ℕ) (k : ℕ) (m : Message) : Type 0 wher
   pub next : k + (head (drop k recordingBytes)).size ≡ m.next
 
 module _ (recordingBytes : List ℕ) (k : ℕ) where
-  pub met : (m : Message) → told_message (M.Message m) ≡ message_at recordingBytes k → Met recordingBytes k m
+  pub met : (m : Message) → told_message (Ok m) ≡ message_at recordingBytes k → Met recordingBytes k m
   unfolding message_at message_here message_spot
   met m e =
       let (large, g) = passed _ _ _ _ (sym e) in
@@ -247,7 +247,7 @@ pub record Spots (recordingBytes : List ℕ) (k : ℕ) (m : Message) : Type 0 wh
   pub within : m.next ≤ length recordingBytes
   pub small : length (take (m.next - m.payload) (drop m.payload recordingBytes)) ≤ 65536
 
-pub spots : (recordingBytes : List ℕ) → length recordingBytes ≤ 65536 → (k : ℕ) (m : Message) → told_message (M.Message m) ≡ message_at recordingBytes k → Spots recordingBytes k m
+pub spots : (recordingBytes : List ℕ) → length recordingBytes ≤ 65536 → (k : ℕ) (m : Message) → told_message (Ok m) ≡ message_at recordingBytes k → Spots recordingBytes k m
 spots recordingBytes l k m e =
     let g = met recordingBytes k m e in
     record {

@@ -21,7 +21,7 @@ use Rattle.rules.proofs.Cleaned.{piece-clean}
 use Rattle.refusal.specs.declared.Refusal.{Refusal}
 use Rattle.refusal.specs.Numbers.{number_of}
 use Rattle.message.specs.declared.Package.{Package}
-use Rattle.message.specs.declared.PackageRead.TheVariants as P
+use Rattle.std.specs.Prelude.{Some, None, Ok, Err}
 use Rattle.message.specs.Answers.{told_package}
 use Rattle.message.proofs.Moved.{moved}
 use Rattle.rules.specs.Walk.{PackageSpot, package_spot, package_at}
@@ -60,11 +60,11 @@ module _ (run : List ℕ) (k : ℕ) where
     | false ↦ piece k (drop k run) >>= (λ (r : List ℕ × ℕ). good (some (package_spot k r.0 r.1)))
   ]
 
-  pub found : (p : Package) → told_package (P.Package p) ≡ package_at run k → Found run k p
+  pub found : (p : Package) → told_package (Ok (Some p)) ≡ package_at run k → Found run k p
   unfolding package_at
   found p e = let (large, g) = passed _ _ _ _ (sym e) in go (leb (length run) k) g
     where
-      go : (b : Bool) → Rest b ≡ told_package (P.Package p) → Found run k p
+      go : (b : Bool) → Rest b ≡ told_package (Ok (Some p)) → Found run k p
       go true g = absurd (none≢some (good_inj g))
       go false g =
           let (r, q, f) = stepped _ _ g in
@@ -76,13 +76,13 @@ module _ (run : List ℕ) (k : ℕ) where
     rest-is = pass _ _ _ _ (le-ltb 65536 (length run) small) (rw (lt-leb (length run) k inside))
 
     -- there is no end before the end
-    pub no_end : told_package P.End ≡ package_at run k → ⊥
+    pub no_end : told_package (Ok None) ≡ package_at run k → ⊥
     no_end e =
         let (r, q, f) = stepped _ _ (sym rest-is ∙ sym e) in
         none≢some (sym (good_inj f))
 
     -- a package that is refused
-    pub no_piece : (f : Refusal) → told_package (P.Refused f) ≡ package_at run k → piece k (drop k run) ≡ bad (number_of f.why) f.place
+    pub no_piece : (f : Refusal) → told_package (Err f) ≡ package_at run k → piece k (drop k run) ≡ bad (number_of f.why) f.place
     no_piece f e = refused-only _ _ (sym rest-is ∙ sym e)
 
 take-drop-take : (a m n : ℕ) (l : List ℕ) → a + m ≤ n → take m (drop a (take n l)) ≡ take m (drop a l)

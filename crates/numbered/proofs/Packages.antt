@@ -23,10 +23,9 @@ use Rattle.rules.proofs.Growing.{join-append, map-append, granted-append}
 use Rattle.rules.proofs.Loops.{Doing, doing_start, doing_next, doing_end, doing_bad, sets-sets}
 use Rattle.refusal.specs.declared.Refusal.{Refusal}
 use Rattle.message.specs.declared.Header.{Header}
-use Rattle.message.specs.declared.HeaderRead.TheVariants as header
 use Rattle.message.specs.declared.Package.{Package}
-use Rattle.message.specs.declared.PackageRead.{PackageRead}
-use Rattle.message.specs.declared.PackageRead.TheVariants as P
+use Rattle.std.specs.Prelude.{Some, None, Result, Ok, Err}
+use Rattle.std.specs.Prelude as std
 use Rattle.message.proofs.Moved.{moved, read-moved}
 use Rattle.message.specs.Answers.{told_header, told_package, front_at, payload_from, next_from}
 use Rattle.message.proofs.Fronts.{fronted, front_stopped, front_package, front-count, front-message}
@@ -36,8 +35,7 @@ use Rattle.wire.specs.Bits.{bit_at, with_bit_if}
 use Rattle.wire.proofs.Bits.{length-with}
 use Rattle.numbered.specs.declared.Size.{Size}
 use Rattle.numbered.specs.declared.Walked.{Walked}
-use Rattle.numbered.specs.declared.MessageTaken.{MessageTaken}
-use Rattle.numbered.specs.declared.MessageTaken.TheVariants as taking
+use Rattle.message.specs.declared.Message as found
 use Rattle.numbered.specs.Parts.{message_by, kept, payload_of, with_package, flags_of, Tells, WalkedOver, finished_by, finished, Took, piece_as, Placed, Stored, picked, StoredRun}
 use Rattle.sheet.proofs.TableRows.{near_in}
 use Rattle.numbered.proofs.Marks.{tells_more, flags-more, flags_long, grow, picked_more}
@@ -69,8 +67,8 @@ simulated_bit flags =
     rw (a, b, c)
 
 -- a package that was read at the start of what is left, as it stands in the run
-pub found-behind : (run : List ℕ) (k : ℕ) → length run ≤ 65536 → (p : Package) → told_package (P.Package p) ≡ package_at (drop k run) 0 → Found run k (moved k p)
-found-behind run k l p e = found run k (moved k p) (read-moved run k l (P.Package p) e)
+pub found-behind : (run : List ℕ) (k : ℕ) → length run ≤ 65536 → (p : Package) → told_package (Ok (Some p)) ≡ package_at (drop k run) 0 → Found run k (moved k p)
+found-behind run k l p e = found run k (moved k p) (read-moved run k l (Ok (Some p)) e)
 
 -- whether a package that was found is granted by the near rows of its message
 module _ (table : List ℕ) (h : Header) (run : List ℕ) (k : ℕ) (p : Package) (f : Found run k p) where
@@ -113,10 +111,10 @@ module _ (keep : List (List ℕ) → List rules.Package) (run : List ℕ) where
     }
 
 -- what was read is no package
-abbrev pub NoPackage : PackageRead → Type 0
-NoPackage x = (p : Package) → x ≡ P.Package p → ⊥
+abbrev pub NoPackage : Result (std.Option Package) Refusal → Type 0
+NoPackage x = (p : Package) → x ≡ Ok (Some p) → ⊥
 
-pub no_package : (p : Package) → NoPackage (P.Package p) → ⊥
+pub no_package : (p : Package) → NoPackage (Ok (Some p)) → ⊥
 no_package p o = o p refl
 
 -- ---- measuring
@@ -169,10 +167,10 @@ module _ (rs : List rows.Row) (m : Message) (run marks₀ : List ℕ) (first : �
     walk_ended l = walked (keep_all (kept rs m) run inv.ps k inv.keeping) (λ b. absurd (omega arith))
 
     module _ (short : length run ≤ 65536) (l : k < length run) where
-      pub walk_stopped : (x : PackageRead) → NoPackage x → told_package x ≡ package_at (drop k run) 0 → WalkedOver rs m run marks₀ marks first (record { size = s; all = all; end = k })
-      walk_stopped (P.Package p) o e = absurd (no_package p o)
-      walk_stopped P.End o e = absurd (no_end run k short l (read-moved run k short P.End e))
-      walk_stopped (P.Refused f) o e = walked (λ w. absurd (omega arith)) (λ b. keep-bad (kept rs m) run inv.ps k inv.keeping l (no_piece run k short l (record { why = f.why; place = k + f.place }) (read-moved run k short (P.Refused f) e)))
+      pub walk_stopped : (x : Result (std.Option Package) Refusal) → NoPackage x → told_package x ≡ package_at (drop k run) 0 → WalkedOver rs m run marks₀ marks first (record { size = s; all = all; end = k })
+      walk_stopped (Ok (Some p)) o e = absurd (no_package p o)
+      walk_stopped (Ok None) o e = absurd (no_end run k short l (read-moved run k short (Ok None) e))
+      walk_stopped (Err f) o e = walked (λ w. absurd (omega arith)) (λ b. keep-bad (kept rs m) run inv.ps k inv.keeping l (no_piece run k short l (record { why = f.why; place = k + f.place }) (read-moved run k short (Err f) e)))
 
       module _ (room : 12 * first + length run ≤ 65536) (p : Package) (f : Found run k (moved k p)) where
         abbrev done : List (List ℕ)
@@ -220,10 +218,10 @@ module _ (rs : List rows.Row) (m : Message) (run marks₀ : List ℕ) (first : �
 -- ---- a message whose packages were walked over
 
 module _ (rs : List rows.Row) (input : List ℕ) (k : ℕ) (marks marks' : List ℕ) (first : ℕ) where
-  pub took_refused : (f : Refusal) → told_header (header.Refused f) ≡ front_at input k → Took rs input k marks marks' first (taking.Refused f)
+  pub took_refused : (f : Refusal) → told_header (Err f) ≡ front_at input k → Took rs input k marks marks' first (Err f)
   took_refused f e = record { told = front_stopped input k e; measured = tt }
 
-  module _ (h : Header) (e : told_header (header.Header h) ≡ front_at input k) (w : Walked) (o : WalkedOver rs (message_by h) (take (next_from k h - payload_from k h) (drop (payload_from k h) input)) marks marks' first w) where
+  module _ (h : Header) (e : told_header (Ok h) ≡ front_at input k) (w : Walked) (o : WalkedOver rs (message_by h) (take (next_from k h - payload_from k h) (drop (payload_from k h) input)) marks marks' first w) where
     run_long : length (take (next_from k h - payload_from k h) (drop (payload_from k h) input)) ≡ next_from k h - payload_from k h
     run_long = (fronted input k h e).long
 
@@ -251,7 +249,7 @@ module _ (rs : List rows.Row) (input : List ℕ) (k : ℕ) (marks marks' : List 
           };
         }
 
-    pub took_walked : (r : MessageTaken) → r ≡ finished input k h w → Took rs input k marks marks' first r
+    pub took_walked : (r : Result (found.Message × Size) Refusal) → r ≡ finished input k h w → Took rs input k marks marks' first r
     took_walked r q = subst (Took rs input k marks marks' first) (sym q) (by_end (ltb w.end (next_from k h - payload_from k h)) refl (said w.all) refl)
 
 -- ---- writing
@@ -292,16 +290,16 @@ module _ (marks : List ℕ) (first : ℕ) (run before : List ℕ) (to : ℕ) whe
     }
 
     module _ (short : length run ≤ 65536) (l : k < length run) where
-      pub store_stopped : (x : PackageRead) → NoPackage x → told_package x ≡ package_at (drop k run) 0 → StoredRun (picked marks first) run before after to (record { bytes = end - to; all = all })
-      store_stopped (P.Package p) o e = absurd (no_package p o)
-      store_stopped P.End o e = absurd (no_end run k short l (read-moved run k short P.End e))
-      store_stopped (P.Refused f) o e = record {
+      pub store_stopped : (x : Result (std.Option Package) Refusal) → NoPackage x → told_package x ≡ package_at (drop k run) 0 → StoredRun (picked marks first) run before after to (record { bytes = end - to; all = all })
+      store_stopped (Ok (Some p)) o e = absurd (no_package p o)
+      store_stopped (Ok None) o e = absurd (no_end run k short l (read-moved run k short (Ok None) e))
+      store_stopped (Err f) o e = record {
         small = omega (arith, inv.most, inv.keeping.inside);
         few = omega (arith, inv.few, inv.keeping.inside);
-        right = λ cs g. absurd (good≢bad (sym (keep-bad (picked marks first) run inv.ps k inv.keeping l (no_piece run k short l (record { why = f.why; place = k + f.place }) (read-moved run k short (P.Refused f) e))) ∙ g));
+        right = λ cs g. absurd (good≢bad (sym (keep-bad (picked marks first) run inv.ps k inv.keeping l (no_piece run k short l (record { why = f.why; place = k + f.place }) (read-moved run k short (Err f) e))) ∙ g));
       }
 
-      module _ (p : Package) (e : told_package (P.Package p) ≡ package_at (drop k run) 0) where
+      module _ (p : Package) (e : told_package (Ok (Some p)) ≡ package_at (drop k run) 0) where
         abbrev p' : Package
         p' = moved k p
 

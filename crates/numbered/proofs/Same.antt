@@ -5,7 +5,8 @@ use mathlib.Core.List.{List}
 use Rattle.rules.specs.Claims.{TellsApart}
 use Rattle.refusal.proofs.Numbers.{number_positive, same_refusal}
 use Rattle.numbered.specs.declared.Progress.{Progress}
-use Rattle.numbered.specs.declared.Answer.{Answer}
+use Rattle.refusal.specs.declared.Refusal.{Refusal}
+use Rattle.std.specs.Prelude.{Result, Ok, Err}
 use Rattle.numbered.specs.declared.Numbered.{Numbered}
 use Rattle.numbered.specs.Numbering.{State}
 use Rattle.numbered.specs.Quota.{Report}
@@ -16,10 +17,10 @@ progress_in r = record { handled = r.handled; consumed = r.consumed; bytes = r.b
 
 pub same_report : TellsApart report
 unfolding progress_in
-same_report (Answer.Done x) (Answer.Done y) e = ap (λ (r : Report). Answer.Done (progress_in r)) e
-same_report (Answer.Done x) (Answer.Refused f) e = absurd (number_positive f.why (sym (ap (λ (r : Report). r.number) e)))
-same_report (Answer.Refused f) (Answer.Done x) e = absurd (number_positive f.why (ap (λ (r : Report). r.number) e))
-same_report (Answer.Refused f) (Answer.Refused g) e = ap Answer.Refused (same_refusal f g (ap (λ (r : Report). r.number) e) (ap (λ (r : Report). r.place) e))
+same_report (Ok x) (Ok y) e = ap (λ (r : Report). Ok (progress_in r)) e
+same_report (Ok x) (Err f) e = absurd (number_positive f.why (sym (ap (λ (r : Report). r.number) e)))
+same_report (Err f) (Ok x) e = absurd (number_positive f.why (ap (λ (r : Report). r.number) e))
+same_report (Err f) (Err g) e = ap Err (same_refusal f g (ap (λ (r : Report). r.number) e) (ap (λ (r : Report). r.place) e))
 
 -- what is left of ids and numbers, with the buffer
 abbrev Left : Type 0
@@ -29,5 +30,5 @@ pub tells_apart : TellsApart (λ (x : Numbered × Left). told x.0 x.1.0 x.1.1 x.
 tells_apart (a, l) (b, m) e =
     let answers : a.answer ≡ b.answer = same_report a.answer b.answer (ap (λ (x : Report × State × List ℕ). x.0) e) in
     let held : a.held ≡ b.held = ap (λ (x : Report × State × List ℕ). x.1.held) e in
-    let same : a ≡ b = ap (λ (x : Answer). record { answer = x; held = a.held }) answers ∙ ap (λ (x : ℕ). record { answer = b.answer; held = x }) held in
+    let same : a ≡ b = ap (λ (x : Result Progress Refusal). record { answer = x; held = a.held }) answers ∙ ap (λ (x : ℕ). record { answer = b.answer; held = x }) held in
     ap₂ (λ (x : Numbered) (y : Left). (x, y)) same (ap (λ (x : Report × State × List ℕ). (x.1.ids, x.1.next, x.2)) e)

@@ -27,16 +27,6 @@ use Rattle.numbered.proofs.Held.{counted_new, counted-ids, once-counted}
 -- ---- one id
 
 module _ (known fresh : List ℕ) (seats : Seats) (room id k : ℕ) where
-  -- it has no package, or there is room for all, or the ids are too many already
-  pub seated_none : (packages : ℕ) → packages ≡ 0 → Seated known fresh fresh seats seats room id packages k
-  seated_none packages e = record { long = refl; idle = λ l. refl; none = λ z. (refl, refl); full = λ l. (refl, refl); one = λ c h. absurd (h e) }
-
-  pub seated_idle : (packages : ℕ) → 64 < room → Seated known fresh fresh seats seats room id packages k
-  seated_idle packages l = record { long = refl; idle = λ l. refl; none = λ z. (refl, refl); full = λ l. (refl, refl); one = λ c. absurd (omega arith) }
-
-  pub seated_full : (packages : ℕ) → room < seats.many → Seated known fresh fresh seats seats room id packages k
-  seated_full packages l = record { long = refl; idle = λ l. refl; none = λ z. (refl, refl); full = λ l. (refl, refl); one = λ c h f. absurd (omega arith) }
-
   module _ (few : seats.many ≤ length fresh) where
     fresh-long : length (take seats.many fresh) ≡ seats.many
     fresh-long = length-take-le seats.many fresh few

@@ -1,11 +1,11 @@
 -- Ids and numbers side by side, and which ids can be held.
-use Prim.Native.Nat.{ℕ, suc, ◌+◌, ◌≤◌, ◌<◌}
+use Prim.Native.Nat.{ℕ, suc, ◌+◌, ◌≤◌}
 use mathlib.Core.Path.{◌≡◌, refl, ap, ◌∙◌}
-use mathlib.Core.Bool.{true, false}
+use mathlib.Core.Bool.{false}
 use mathlib.Core.List.{List, [], ◌∷◌, ◌++◌, map}
 use native.Mathlib.Nat.{zero-add}
 use native.Mathlib.Omega.{arith}
-use borrow.Author.Tests.{ltb-false, le-ltb, lt-ltb}
+use borrow.Author.Tests.{ltb-false}
 use lib.Dec.{ltb}
 use lib.ListN.{length, take, drop, take-append-drop}
 use lib.Seq.{sets, sets-eq, length-take-le}
@@ -56,11 +56,3 @@ module _ (most : ℕ) (ids : List ℕ) (held : ℕ) where
   pub good-single : bad_ids most ids held ≡ false → some_twice (take held ids) ≡ false
   unfolding bad_ids
   good-single e = (neither (ltb most held) (some_twice (take held ids)) e).1
-
-  pub bad-many : most < held → true ≡ bad_ids most ids held
-  unfolding bad_ids
-  bad-many l = rw (lt-ltb most held l)
-
-  pub bad-twice : held ≤ most → some_twice (take held ids) ≡ bad_ids most ids held
-  unfolding bad_ids
-  bad-twice l = rw (le-ltb most held l)

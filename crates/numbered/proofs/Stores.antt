@@ -4,12 +4,11 @@ use mathlib.Core.Path.{◌≡◌, refl, sym, ap, ◌∙◌}
 use mathlib.Core.Bool.{Bool, true, false}
 use mathlib.Core.List.{List, [], ◌∷◌, ◌++◌, append-nil, append_assoc}
 use native.Mathlib.Nat.{add-zero, add-suc, suc-add}
-use native.Mathlib.Numerals.{add-one}
 use native.Mathlib.Omega.{arith}
 use borrow.Author.Tests.{eqb-true, eqb-false}
 use lib.Dec.{eqb}
 use lib.ListN.{length, get_or, take, drop, set, replicate, length-replicate, replicate-append-replicate}
-use lib.Seq.{sets, set-set, set_comm, take-suc, take-add, drop-cons, length-take-le}
+use lib.Seq.{sets, set-set, set_comm, take-add, drop-cons, length-take-le}
 use Rattle.rules.specs.Bytes.{Bytes, word, put32, part}
 use Rattle.rules.proofs.Numbers.{put32-at}
 use Rattle.rules.proofs.Loops.{sets-sets, set_before}
@@ -47,13 +46,6 @@ zeros-left xs b i j z s l e =
     let n : j + length ys ≡ i + length xs = omega (arith, length-replicate {A = ℕ} (4 - z) 0) in
     ap (λ (w : List ℕ). sets (sets b j w) i xs) a ∙ ap (λ (c : List ℕ). sets c i xs) (sym (sets-before ys zs b j))
     ∙ sets-lost ys xs (sets b (j + length ys) zs) i j l (omega arith) ∙ ap (λ (k : ℕ). sets (sets b k zs) i xs) n ∙ sets-before xs zs b i
-
--- one number more is stored behind those stored from a place on
-pub put_next : (b l : List ℕ) (at i d : ℕ) → i < length l → set (sets b at (take i l)) (at + i) (get_or l i d) ≡ sets b at (take (i + 1) l)
-put_next b l at i d h =
-    let n : length (take i l) ≡ i = length-take-le i l (omega arith) in
-    ap (λ (k : ℕ). set (sets b at (take i l)) (at + k) (get_or l i d)) (sym n) ∙ sets-sets (take i l) (get_or l i d ∷ []) b at
-    ∙ ap (sets b at) (sym (take-suc l i d h)) ∙ ap (λ (k : ℕ). sets b at (take k l)) (sym (add-one i))
 
 -- two words, one behind the other
 pub words-all : (b : List ℕ) (at x y : ℕ) {b1 b2 : List ℕ} → b1 ≡ sets b at (put32 x []) → b2 ≡ sets b1 (at + 4) (put32 y []) → b2 ≡ sets b at (put32 x (put32 y []))

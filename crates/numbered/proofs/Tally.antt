@@ -17,19 +17,17 @@ use Rattle.rules.proofs.Growing.{map-append}
 use Rattle.rules.proofs.Outcomes.{pass, halt, after, step, stop, stop_before, good_inj, good≢bad}
 use Rattle.refusal.specs.declared.Refusal.{Refusal}
 use Rattle.refusal.specs.declared.Why.TheVariants.{Large}
-use Rattle.refusal.specs.Numbers.{IDS, number_of}
+use Rattle.refusal.specs.Numbers.{IDS, number_of, refused, outcome_by, outcome_of}
 use Rattle.message.specs.declared.Message.{Message}
-use Rattle.message.specs.declared.MessageRead.TheVariants as M
+use Rattle.std.specs.Prelude.{Result, Ok, Err}
 use Rattle.message.specs.Answers.{told_message}
 use Rattle.rules.specs.Reading.{message_at}
 use Rattle.numbered.specs.declared.Size.{Size}
 use Rattle.numbered.specs.declared.Totals.{Totals}
-use Rattle.numbered.specs.declared.Progress.{Progress}
 use Rattle.numbered.specs.declared.Counted.{Counted}
-use Rattle.numbered.specs.declared.Answer.TheVariants as answer
 use Rattle.numbered.specs.declared.Seats.{Seats}
 use Rattle.numbered.specs.Parts.{message_by, with_entry, Sized, flags_of, flags_in, Tells, Measured, entered, Single, named, Seated, judged_by, judged_as}
-use Rattle.numbered.specs.Told.{totals, progress, measured, told_measure, Counts}
+use Rattle.numbered.specs.Told.{totals, progress, measured, progress_of, Counts}
 use Rattle.numbered.specs.Numbering.{numbers_after, numbered_messages, numbered_bytes, id_of}
 use Rattle.numbered.specs.Quota.{Taken, taken_at, taken_from, message_of, bytes_taken, ids_fit}
 use Rattle.numbered.proofs.Taking.{Taking, taking_start, taking_end, taking_full, taking_next, taking_bad}
@@ -74,17 +72,17 @@ pub record Tallying (rs : List rows.Row) (input : List ℕ) (quota : ℕ) (done 
   pub so_far : t ≡ totals (released rs (map message_of done))
 
 -- a refusal
-module _ (rs : List rows.Row) (input : List ℕ) (quota : ℕ) (known : List ℕ) (room : ℕ) (fresh marks : List ℕ) (f : Refusal) (r : Counted) (is : r.answer ≡ answer.Refused f) where
-  not_done : (p : Progress) → r.answer ≡ answer.Done p → ⊥
-  not_done p e = good≢bad (ap told_measure (sym is ∙ e))
+module _ (rs : List rows.Row) (input : List ℕ) (quota : ℕ) (known : List ℕ) (room : ℕ) (fresh marks : List ℕ) (f : Refusal) (r : Result Counted Refusal) (is : r ≡ Err f) where
+  not_done : (c : Counted) → r ≡ Ok c → ⊥
+  not_done c e = good≢bad (ap outcome_of (sym is ∙ e))
 
-  counts-refused : told_measure (answer.Refused f) ≡ measured rs input quota known room → Counts rs input quota known room fresh marks r
+  counts-refused : refused f ≡ measured rs input quota known room → Counts rs input quota known room fresh marks r
   counts-refused e = record {
-    marked = record { tells = λ p d. absurd (not_done p d) };
-    told = ap told_measure is ∙ e;
-    small = λ p d. absurd (not_done p d);
-    few = λ p d. absurd (not_done p d);
-    ids = λ p d. absurd (not_done p d);
+    marked = record { tells = λ c d. absurd (not_done c d) };
+    told = ap (outcome_by progress_of) is ∙ e;
+    small = λ c d. absurd (not_done c d);
+    few = λ c d. absurd (not_done c d);
+    ids = λ c d. absurd (not_done c d);
   }
 
 module _ (rs : List rows.Row) (input : List ℕ) (quota : ℕ) (known : List ℕ) (room : ℕ) where
@@ -155,34 +153,36 @@ module _ (rs : List rows.Row) (input : List ℕ) (quota : ℕ) (known : List ℕ
       counting true c l = seating_fits rs known room fresh seats inv.done (inv.counted (leb-true room 64 c)) l
       counting false c l = few-entries (wide (leb-false room 64 c))
 
-      judged_with : (b : Bool) → ltb room seats.many ≡ b → told_measure (judged_as (progress handled k t) seats room) ≡ measured rs input quota known room
+      judged_with : (b : Bool) → ltb room seats.many ≡ b → outcome_by progress_of (judged_as (progress handled k t) seats room) ≡ measured rs input quota known room
       judged_with true o =
           let over = ltb-true room seats.many o in
-          ap (λ (b : Bool). told_measure (judged_by (progress handled k t) seats b)) o ∙ crowded over (go (leb room 64) refl over)
+          ap (λ (b : Bool). outcome_by progress_of (judged_by (progress handled k t) seats b)) o ∙ crowded over (go (leb room 64) refl over)
         where
           go : (b : Bool) → leb room 64 ≡ b → room < seats.many → room ≤ 64
           go true c over = leb-true room 64 c
           go false c over = absurd (omega (arith, over, inv.idle (leb-false room 64 c)))
-      judged_with false o = ap (λ (b : Bool). told_measure (judged_by (progress handled k t) seats b)) o ∙ fits (counting (leb room 64) refl (ltb-false room seats.many o))
+      judged_with false o = ap (λ (b : Bool). outcome_by progress_of (judged_by (progress handled k t) seats b)) o ∙ fits (counting (leb room 64) refl (ltb-false room seats.many o))
 
       -- where it is done, the ids are not too many
-      judged_done : (p : Progress) → judged_as (progress handled k t) seats room ≡ answer.Done p → (seats.many ≤ room) × (progress handled k t ≡ p)
-      judged_done p e = go (ltb room seats.many) refl e
+      judged_done : (c : Counted) → judged_as (progress handled k t) seats room ≡ Ok c → (seats.many ≤ room) × (record { progress = progress handled k t; many = seats.many } ≡ c)
+      judged_done c e = go (ltb room seats.many) refl e
         where
-          go : (b : Bool) → ltb room seats.many ≡ b → judged_by (progress handled k t) seats b ≡ answer.Done p → (seats.many ≤ room) × (progress handled k t ≡ p)
-          go true o q = absurd (good≢bad (ap told_measure q))
-          go false o q = (ltb-false room seats.many o, good_inj (ap told_measure q))
+          go : (b : Bool) → ltb room seats.many ≡ b → judged_by (progress handled k t) seats b ≡ Ok c → (seats.many ≤ room) × (record { progress = progress handled k t; many = seats.many } ≡ c)
+          go true o q = absurd (good≢bad (ap outcome_of q))
+          go false o q = (ltb-false room seats.many o, good_inj (ap outcome_of q))
 
-      counts : Counts rs input quota known room fresh marks (record { answer = judged_as (progress handled k t) seats room; many = seats.many })
+      counts : Counts rs input quota known room fresh marks (judged_as (progress handled k t) seats room)
       counts = record {
-        marked = record { tells = λ p e ts read. subst (λ (x : List Taken). Tells marks (flags_in rs (map message_of x))) (good_inj (sym all ∙ read)) inv.marked };
+        marked = record { tells = λ c e ts read. subst (λ (x : List Taken). Tells marks (flags_in rs (map message_of x))) (good_inj (sym all ∙ read)) inv.marked };
         told = judged_with (ltb room seats.many) refl;
-        small = λ p e. omega (arith, ap (λ (x : Progress). x.bytes) (judged_done p e).1, tally.bounds.small, tally.inside, short);
-        few = λ p e. (judged_done p e).0;
-        ids = λ p e c ts read. ap (λ (x : List Taken). map id_of (numbers_after (named known) (released rs (map message_of x)))) (good_inj (sym read ∙ all)) ∙ ((inv.counted c).under (judged_done p e).0).held;
+        small = λ c e. omega (arith, ap (λ (x : Counted). x.progress.bytes) (judged_done c e).1, tally.bounds.small, tally.inside, short);
+        few = λ c e. omega (arith, ap (λ (x : Counted). x.many) (judged_done c e).1, (judged_done c e).0);
+        ids = λ c e l ts read.
+            let (u, q) = judged_done c e in
+            ap (λ (x : List Taken). map id_of (numbers_after (named known) (released rs (map message_of x)))) (good_inj (sym read ∙ all)) ∙ ((inv.counted l).under u).held ∙ ap (λ (x : Counted). known ++ take x.many fresh) q;
       }
 
-    module _ (wide : 64 < room → 1820 ≤ room) (r : Counted) (is : r ≡ record { answer = judged_as (progress handled k t) seats room; many = seats.many }) where
+    module _ (wide : 64 < room → 1820 ≤ room) (r : Result Counted Refusal) (is : r ≡ judged_as (progress handled k t) seats room) where
       pub measure_ended : length input ≤ k → Counts rs input quota known room fresh marks r
       measure_ended l = subst (Counts rs input quota known room fresh marks) (sym is) (counts wide (taking_end input quota inv.done k tally.doing l))
 
@@ -197,16 +197,16 @@ module _ (rs : List rows.Row) (input : List ℕ) (quota : ℕ) (known : List ℕ
       left : length inv.done < quota
       left = omega (arith, tally.many, tally.within)
 
-      refused-told : (f : Refusal) → told_message (M.Refused f) ≡ message_at input k → told_measure (answer.Refused f) ≡ measured rs input quota known room
+      refused-told : (f : Refusal) → told_message (Err f) ≡ message_at input k → refused f ≡ measured rs input quota known room
       unfolding measured taken_at
       refused-told f e =
           let b : taken_from input quota ≡ bad (number_of f.why) f.place = taking_bad input quota inv.done k tally.doing l left (stop _ _ (no_message_lem input k short e)) in
           sym (pass _ _ _ _ (le-ltb 65536 (length input) short) (stop _ _ b))
 
-      pub measure_refused : (marks' : List ℕ) (f : Refusal) (r : Counted) → r.answer ≡ answer.Refused f → told_message (M.Refused f) ≡ message_at input k → Counts rs input quota known room fresh marks' r
+      pub measure_refused : (marks' : List ℕ) (f : Refusal) (r : Result Counted Refusal) → r ≡ Err f → told_message (Err f) ≡ message_at input k → Counts rs input quota known room fresh marks' r
       measure_refused marks' f r a e = counts-refused rs input quota known room fresh marks' f r a (refused-told f e)
 
-      module _ (m : Message) (e : told_message (M.Message m) ≡ message_at input k) where
+      module _ (m : Message) (e : told_message (Ok m) ≡ message_at input k) where
         abbrev g : Met input k m
         g = met input k m e
 
@@ -277,7 +277,7 @@ module _ (rs : List rows.Row) (input : List ℕ) (quota : ℕ) (known : List ℕ
             }
 
 -- an input that is too long
-pub large : (rs : List rows.Row) (input : List ℕ) (quota : ℕ) (known : List ℕ) (room : ℕ) (fresh marks : List ℕ) (r : Counted) → r.answer ≡ answer.Refused (record { why = Large; place = 65536 }) → 65536 < length input
+pub large : (rs : List rows.Row) (input : List ℕ) (quota : ℕ) (known : List ℕ) (room : ℕ) (fresh marks : List ℕ) (r : Result Counted Refusal) → r ≡ Err (record { why = Large; place = 65536 }) → 65536 < length input
     → Counts rs input quota known room fresh marks r
 unfolding measured
 large rs input quota known room fresh marks r is l = counts-refused rs input quota known room fresh marks (record { why = Large; place = 65536 }) r is (sym (halt _ _ _ _ (lt-ltb 65536 (length input) l)))

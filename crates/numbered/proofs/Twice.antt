@@ -2,35 +2,30 @@
 use Prim.Native.Nat.{ℕ, ◌+◌, ◌≤◌, ◌<◌}
 use mathlib.Core.Path.{◌≡◌, refl, sym, ap, ◌∙◌}
 use mathlib.Core.Bool.{Bool, true, false, ◌||◌}
+use mathlib.Core.Logic.{⊎_elim}
 use mathlib.Core.List.{List, [], ◌∷◌}
 use native.Mathlib.Numerals.{add-one}
 use native.Mathlib.Omega.{arith}
-use borrow.Author.Tests.{ltb-false, le-ltb, eqb-true, eqb-false}
+use borrow.Author.Tests.{ltb-false, le-ltb, lt-ltb, eqb-true, eqb-false, eq-eqb, ne_eqb}
 use lib.Dec.{eqb, ltb}
 use lib.ListN.{length, get_or, drop, drop_of_length-le}
 use lib.Seq.{drop-cons}
+use Rattle.std.specs.List.{list_any}
 use Rattle.rules.specs.Items.{count}
 use Rattle.rules.proofs.Outcomes.{neither}
 use Rattle.numbered.specs.Quota.{some_twice}
 use Rattle.numbered.proofs.Numbers.{count-cons}
-use Rattle.numbered.proofs.Seeking.{count_same, count-other}
+use Rattle.numbered.proofs.Seeking.{count_same, count-other, count-one}
 
--- ---- whether x stands from place k on
+-- ---- whether x stands in a list
 
-module _ (ids : List ℕ) (x k : ℕ) where
-  pub again-end : length ids ≤ k → count x (drop k ids) ≡ 0
-  unfolding count
-  again-end l = ap (count x) (drop_of_length-le ids l)
-
-  module _ (l : k < length ids) where
-    rest-is : drop k ids ≡ get_or ids k 0 ∷ drop (k + 1) ids
-    rest-is = drop-cons ids k 0 l ∙ ap (λ (i : ℕ). get_or ids k 0 ∷ drop i ids) (sym (add-one k))
-
-    pub again-next : (get_or ids k 0 ≡ x → ⊥) → count x (drop k ids) ≡ count x (drop (k + 1) ids)
-    again-next h = ap (count x) rest-is ∙ omega (arith, count-cons x (get_or ids k 0) (drop (k + 1) ids), count-other x (get_or ids k 0) (λ e. h (sym e)))
-
-    pub again-hit : get_or ids k 0 ≡ x → 0 < count x (drop k ids)
-    again-hit e = omega (arith, ap (count x) rest-is, count-cons x (get_or ids k 0) (drop (k + 1) ids), count_same x (get_or ids k 0) (sym e))
+pub any_count : (x : ℕ) (l : List ℕ) → list_any (λ (y : ℕ). eqb y x) l ≡ ltb 0 (count x l)
+unfolding count
+any_count x [] = refl
+any_count x (y ∷ l) =
+    ⊎_elim (λ w. rw (eq-eqb y x (sym w.0)) (sym (lt-ltb 0 (count x (y ∷ l)) (omega (arith, count-cons x y l, w.1)))))
+    (λ w. rw (ne_eqb y x (λ e. w.0 (sym e))) (any_count x l ∙ ap (ltb 0) (omega (arith, count-cons x y l, w.1))))
+    (count-one x y)
 
 -- ---- whether some id of those from place i on stands twice
 
@@ -42,7 +37,7 @@ module _ (ids : List ℕ) (i : ℕ) where
   module _ (l : i < length ids) where
     twice-is : some_twice (drop i ids) ≡ (ltb 0 (count (get_or ids i 0) (drop (i + 1) ids)) || some_twice (drop (i + 1) ids))
     unfolding some_twice
-    twice-is = ap some_twice (rest-is ids 0 i l)
+    twice-is = ap some_twice (drop-cons ids i 0 l ∙ ap (λ (k : ℕ). get_or ids i 0 ∷ drop k ids) (sym (add-one i)))
 
     pub twice-hit : ltb 0 (count (get_or ids i 0) (drop (i + 1) ids)) ≡ true → some_twice (drop i ids) ≡ true
     twice-hit e = twice-is ∙ rw e

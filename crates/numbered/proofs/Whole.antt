@@ -2,15 +2,15 @@
 use Prim.Native.Nat.{ℕ, ◌+◌, ◌-◌, ◌≤◌, ◌<◌}
 use mathlib.Core.Path.{◌≡◌, refl, sym, ap, subst, ◌∙◌}
 use mathlib.Core.Logic.{⊎_elim}
-use mathlib.Core.Bool.{Bool, true, false, ◌&&◌}
+use mathlib.Core.Bool.{Bool, true, false, ◌&&◌, false≢true}
 use mathlib.Core.List.{List, [], ◌++◌, map}
 use native.Mathlib.Nat.{zero-add}
 use native.Mathlib.Omega.{arith}
-use borrow.Author.Tests.{ltb-false, le-ltb, eqb-true, leb-true, leb-false, eq-eqb, ne_eqb, le-leb, lt-leb}
+use borrow.Author.Tests.{ltb-false, le-ltb, eqb-true, leb-true, leb-false, eq-eqb, le-leb, lt-leb}
 use lib.Dec.{leb, ltb, eqb}
 use lib.ListN.{length, take, replicate, length-append, length-take, length-replicate, length-map}
 use lib.Seq.{sets, length-take-le}
-use Rattle.rules.specs.Outcome.{Outcome, good, bad}
+use Rattle.rules.specs.Outcome.{Outcome, good, bad, refuse, ◌>>◌}
 use Rattle.rules.specs.Items.{items, count}
 use Rattle.rules.specs.Message.{Message, message}
 use Rattle.rules.specs.Sheet as rows
@@ -18,15 +18,14 @@ use Rattle.rules.specs.Copy.{Entry, released}
 use Rattle.rules.proofs.Loops.{sets-sets}
 use Rattle.rules.proofs.Outcomes.{pass, halt, step, stop, passed, came_after, stepped, good_inj, good≢bad, refused-step, refused-at, stop_before, refused-checks}
 use Rattle.refusal.specs.declared.Refusal.{Refusal}
-use Rattle.refusal.specs.declared.Why.TheVariants.{Room, Ids}
-use Rattle.refusal.specs.Numbers.{number_of}
+use Rattle.refusal.specs.declared.Why.TheVariants.{Room}
+use Rattle.refusal.specs.Numbers.{IDS, number_of, refused}
 use Rattle.numbered.specs.declared.Progress.{Progress}
-use Rattle.numbered.specs.declared.Answer.{Answer}
-use Rattle.numbered.specs.declared.Answer.TheVariants as answer
+use Rattle.std.specs.Prelude.{min, Result, Ok, Err}
 use Rattle.numbered.specs.Numbering.{Running, numbers_after, numbered_bytes, State, running_in, id_of, next_of, holding}
 use Rattle.numbered.specs.Quota.{bad_ids, Taken, taken_from, message_of, bytes_taken, ids_fit, delivering, measuring, Report, reported, numbered_copy, settled, shorter, most_in}
-use Rattle.numbered.specs.Parts.{named, flags_in, Tells, Marked, Single, Roomy, Wrote, known_of, room_of, Most, refused_ids}
-use Rattle.numbered.specs.Told.{totals, progress, measured, told_measure, MarkedBy, report, state_of, told}
+use Rattle.numbered.specs.Parts.{named, flags_in, Tells, Marked, Single, Roomy, Wrote, known_of, room_of, Most, refused_ids, Shut, answered}
+use Rattle.numbered.specs.Told.{totals, progress, measured, MarkedBy, report, state_of, told}
 use Rattle.numbered.proofs.Messages.{First, first_taken, few-released}
 use Rattle.numbered.proofs.States.{beside-ids, beside-length, sets_same, good-few, good-single}
 use Rattle.numbered.proofs.Twice.{twice-once}
@@ -36,11 +35,12 @@ use Rattle.numbered.proofs.Entries.{bytes-length}
 
 -- ---- how many ids may be held
 
-pub shorter-first : (m n : ℕ) → m ≤ n → m ≡ shorter m n
-shorter-first m n l = rw (le-leb m n l, shorter)
-
-pub shorter-second : (m n : ℕ) → n < m → n ≡ shorter m n
-shorter-second m n l = rw (lt-leb m n l, shorter)
+pub min_is : (m n : ℕ) → min m n ≡ shorter m n
+min_is m n = go (leb m n) refl
+  where
+    go : (b : Bool) → leb m n ≡ b → min m n ≡ elim b [ true ↦ m | false ↦ n ]
+    go true e = omega (arith, leb-true m n e)
+    go false e = omega (arith, leb-false m n e)
 
 pub shorter-least : (m n : ℕ) → (shorter m n ≤ m) × (shorter m n ≤ n)
 shorter-least m n = go (leb m n) refl
@@ -64,9 +64,6 @@ most-ids ids held most l m = record {
   small = omega arith;
 }
 
-pub most-held : (places held : ℕ) → (held ≡ 0 → ⊥) → shorter places 64 ≡ most_in places held
-most-held places held h = rw (ne_eqb held 0 h, most_in)
-
 pub most_narrow : (places held : ℕ) → places < 1820 → shorter places 64 ≡ most_in places held
 most_narrow places held l = go (eqb held 0)
   where
@@ -87,10 +84,6 @@ most-all m n held e a b = go (leb m n) refl
 
     go : (c : Bool) → leb m n ≡ c → 1820 ≤ most_in (shorter m n) held
     go c f = omega (arith, most-wide (shorter m n) held e (longer c f))
-
--- so that all are among the first of two lists
-pub most-first : (m n held most : ℕ) → Most (shorter m n) held most → most ≤ m
-most-first m n held most w = omega (arith, w.inside, (shorter-least m n).0)
 
 pub most-is : (places held : ℕ) → Most places held (most_in places held)
 most-is places held = go (eqb held 0) refl (leb 1820 places) refl
@@ -115,22 +108,19 @@ module _ (input sheetBytes : List ℕ) (quota : ℕ) (ids next : List ℕ) (held
 
   -- a refusal of either
   refusal : (alone : Bool) (f : Refusal) → outcome alone ≡ bad (number_of f.why) f.place
-      → told (record { answer = answer.Refused f; held = held }) ids next buffer ≡ settled alone most input sheetBytes quota state buffer
+      → told (record { answer = Err f; held = held }) ids next buffer ≡ settled alone most input sheetBytes quota state buffer
   unfolding settled numbered_copy reported
   refusal true f e = sym (ap (λ (o : Outcome (List Taken × List Entry)). ((reported state buffer o).0, state, buffer)) e)
   refusal false f e = sym (ap (reported state buffer) e)
 
-  pub ids-refused : (alone : Bool) → true ≡ refused_ids alone most ids held
-      → told (record { answer = answer.Refused (record { why = Ids; place = 0 }); held = held }) ids next buffer ≡ settled alone most input sheetBytes quota state buffer
-  unfolding delivering
-  ids-refused true e = let z : ◌≡◌ {A = ℕ} 0 1 = cc in absurd (omega arith)
-  ids-refused false e = refusal false (record { why = Ids; place = 0 }) (halt _ _ _ _ (sym e))
-
-  pub sheet-refused : (alone : Bool) → refused_ids alone most ids held ≡ false → (f : Refusal) → rows.sheet sheetBytes ≡ bad (number_of f.why) f.place
-      → told (record { answer = answer.Refused f; held = held }) ids next buffer ≡ settled alone most input sheetBytes quota state buffer
+  -- the ids or the sheet are refused
+  pub shut : (alone : Bool) (f : Refusal) → Shut alone most ids held sheetBytes f → told (answered (Err f) held) ids next buffer ≡ settled alone most input sheetBytes quota state buffer
   unfolding measuring delivering
-  sheet-refused true g f b = refusal true f (stop _ _ b)
-  sheet-refused false g f b = refusal false f (pass _ _ _ _ g (stop _ _ b))
+  shut alone f s = refusal alone f (go alone s.why)
+    where
+      go : (b : Bool) → (refuse (refused_ids b most ids held) IDS 0 >> rows.sheet sheetBytes) ≡ refused f → outcome b ≡ refused f
+      go true e = ⊎_elim (λ l. absurd (false≢true l.0)) (λ l. stop _ _ l.1) (refused-at _ _ _ _ e)
+      go false e = ⊎_elim (λ l. halt _ _ _ _ l.0 ∙ rw (l.1, l.2)) (λ l. pass _ _ _ _ l.0 (stop _ _ l.1)) (refused-at _ _ _ _ e)
 
   -- what is known of ids that can be held
   module _ (good-ids : bad_ids most ids held ≡ false) where
@@ -208,10 +198,10 @@ module _ (input sheetBytes : List ℕ) (quota : ℕ) (ids next : List ℕ) (held
     bytes-are known room m = bytes-length (running_in state) [] (released rs (map message_of m.taken)) ∙ ap (λ (x : Progress). x.bytes) m.sum
 
     -- the report of what makes this progress
-    report-is : (known : List ℕ) (room : ℕ) (m : Measure known room) → report (answer.Done p) ≡ (reported state buffer (good (m.taken, released rs (map message_of m.taken)))).0
+    report-is : (known : List ℕ) (room : ℕ) (m : Measure known room) → report (Ok p) ≡ (reported state buffer (good (m.taken, released rs (map message_of m.taken)))).0
     unfolding reported
     report-is known room m =
-        ap (λ (x : Progress). report (answer.Done x)) (sym m.sum)
+        ap (λ (x : Progress). report (Ok x)) (sym m.sum)
         ∙ ap (λ (b : ℕ). record { number = 0; place = 0; handled = length m.taken; consumed = bytes_taken m.taken; bytes = b; messages = (totals (released rs (map message_of m.taken))).messages; packages = (totals (released rs (map message_of m.taken))).packages })
         (sym (bytes-length (running_in state) [] (released rs (map message_of m.taken))))
 
@@ -270,8 +260,8 @@ module _ (input sheetBytes : List ℕ) (quota : ℕ) (ids next : List ℕ) (held
       }
 
       -- bits that tell of what is taken tell of what is written
-      pub marked-part : (marks : List ℕ) (r : Answer) → r ≡ answer.Done p → MarkedBy rs input quota marks r → Marked rs (take p.consumed input) marks
-      marked-part marks r d b = record { tells = λ ms q. subst (λ (x : List Message). Tells marks (flags_in rs x)) (good_inj (sym part-read ∙ q)) (b.tells p d m.taken m.read) }
+      pub marked-part : {A : Type 0} (marks : List ℕ) (r : Result A Refusal) (a : A) → r ≡ Ok a → MarkedBy rs input quota marks r → Marked rs (take p.consumed input) marks
+      marked-part marks r a d b = record { tells = λ ms q. subst (λ (x : List Message). Tells marks (flags_in rs x)) (good_inj (sym part-read ∙ q)) (b.tells a d m.taken m.read) }
 
   module _ (rs : List rows.Row) (valid : rows.sheet sheetBytes ≡ good rs) where
     -- messages that are refused
@@ -292,14 +282,14 @@ module _ (input sheetBytes : List ℕ) (quota : ℕ) (ids next : List ℕ) (held
         crowds true g l ts t i = absurd (good≢bad (sym i ∙ never_many rs (ltb-false _ _ l) ts t))
         crowds false g l ts t i = pass _ _ _ _ g (step _ _ valid (pass _ _ _ _ l (step _ _ t (stop_before _ _ (sym (same_fit g rs ts) ∙ i)))))
 
-    pub messages-refused : (alone : Bool) → refused_ids alone most ids held ≡ false → (f : Refusal) → told_measure (answer.Refused f) ≡ measured rs input quota (take (known_of alone held) ids) (room_of alone most held)
-        → told (record { answer = answer.Refused f; held = held }) ids next buffer ≡ settled alone most input sheetBytes quota state buffer
+    pub messages-refused : (alone : Bool) → refused_ids alone most ids held ≡ false → (f : Refusal) → refused f ≡ measured rs input quota (take (known_of alone held) ids) (room_of alone most held)
+        → told (record { answer = Err f; held = held }) ids next buffer ≡ settled alone most input sheetBytes quota state buffer
     messages-refused alone g f e = refusal alone f (bad-outcome alone g (number_of f.why) f.place e)
 
     module _ (p : Progress) where
       -- measured alone
       pub measured-alone : {alone : Bool} → alone ≡ true → good p ≡ measured rs input quota (take (known_of alone held) ids) (room_of alone most held)
-          → told (record { answer = answer.Done p; held = held }) ids next buffer ≡ settled alone most input sheetBytes quota state buffer
+          → told (record { answer = Ok p; held = held }) ids next buffer ≡ settled alone most input sheetBytes quota state buffer
       unfolding settled measuring
       measured-alone {alone} a e =
           let f : good p ≡ measured rs input quota (take 0 ids) 1820 = e ∙ ap (λ (b : Bool). measured rs input quota (take (known_of b held) ids) (room_of b most held)) a in
@@ -311,14 +301,14 @@ module _ (input sheetBytes : List ℕ) (quota : ℕ) (ids next : List ℕ) (held
       -- written too
       module _ (good-ids : bad_ids most ids held ≡ false) (e : good p ≡ measured rs input quota (take held ids) (most - held)) where
         pub room_missing : length buffer < p.bytes
-            → told (record { answer = answer.Refused (record { why = Room; place = p.bytes }); held = held }) ids next buffer ≡ settled false most input sheetBytes quota state buffer
+            → told (record { answer = Err (record { why = Room; place = p.bytes }); held = held }) ids next buffer ≡ settled false most input sheetBytes quota state buffer
         unfolding settled reported
         room_missing l =
-            ap (λ (k : ℕ). told (record { answer = answer.Refused (record { why = Room; place = k }); held = held }) ids next buffer) (sym (long rs p good-ids e))
+            ap (λ (k : ℕ). told (record { answer = Err (record { why = Room; place = k }); held = held }) ids next buffer) (sym (long rs p good-ids e))
             ∙ sym (refused-room most input sheetBytes quota state buffer rs (m rs p good-ids e).taken good-ids valid (m rs p good-ids e).short (m rs p good-ids e).read (fit rs p good-ids e) (omega (arith, long rs p good-ids e)))
 
         pub done : p.bytes ≤ length buffer → (ids' next' : List ℕ) (held' : ℕ) (out : List ℕ) → Wrote rs (take p.consumed input) ids ids' next next' held held' buffer out
-            → told (record { answer = answer.Done p; held = held' }) ids' next' out ≡ settled false most input sheetBytes quota state buffer
+            → told (record { answer = Ok p; held = held' }) ids' next' out ≡ settled false most input sheetBytes quota state buffer
         unfolding settled reported holding
         done l ids' next' held' out wrote =
             let n : wrote.numbers ≡ (numbers rs p good-ids e) = wrote.are (map message_of (m rs p good-ids e).taken) (part-read rs p good-ids e) in
@@ -351,7 +341,7 @@ module _ (input sheetBytes : List ℕ) (quota : ℕ) (ids next : List ℕ) (held
               ap (λ (b : List ℕ). sets b held (take many fresh)) (sym (sets_same held ids (omega (arith, held-few good-ids, ids-many good-ids))))
               ∙ ap (λ (i : ℕ). sets (sets ids 0 (take held ids)) i (take many fresh)) (sym k) ∙ sets-sets (take held ids) (take many fresh) ids 0
 
-          pub done-ids : (next' : List ℕ) × (out : List ℕ) × (told (record { answer = answer.Done p; held = held + many }) (sets ids held (take many fresh)) next' out ≡ settled false most input sheetBytes quota state buffer)
+          pub done-ids : (next' : List ℕ) × (out : List ℕ) × (told (record { answer = Ok p; held = held + many }) (sets ids held (take many fresh)) next' out ≡ settled false most input sheetBytes quota state buffer)
           done-ids = (
             sets next 0 (map next_of after-it),
             sets buffer 0 (bytes rs p good-ids e),

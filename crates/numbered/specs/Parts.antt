@@ -1,7 +1,7 @@
 -- What the parts of the copy come to: the granted packages of one message, measured and stored, its id among those held, and the running numbers.
-use Rattle.std.specs.Prelude.{ℕ, ◌+◌, ◌-◌, ◌*◌, ◌/◌, ◌%◌, ◌^◌, ◌≤◌, ◌<◌, ◌≡◌, Bool, true, false, List, [], ◌∷◌, ◌++◌, map, ltb, eqb, length, get_or, take, drop, set, replicate}
+use Rattle.std.specs.Prelude.{ℕ, ◌+◌, ◌-◌, ◌*◌, ◌/◌, ◌%◌, ◌^◌, ◌≤◌, ◌<◌, ◌≡◌, Bool, true, false, List, [], ◌∷◌, ◌++◌, map, ltb, eqb, length, get_or, take, drop, set, replicate, Result, Ok, Err}
 use Rattle.std.proofs.lemmas.List.Edits.{sets}
-use Rattle.rules.specs.Outcome.{good, bad, PACKAGE}
+use Rattle.rules.specs.Outcome.{good, bad, refuse, ◌>>◌, PACKAGE}
 use Rattle.rules.specs.Bytes.{put32, part, join}
 use Rattle.rules.specs.Packages as rules
 use Rattle.rules.specs.Packages.{cut, package_of, piece_of}
@@ -12,23 +12,23 @@ use Rattle.rules.specs.Reading.{message_at}
 use Rattle.rules.specs.Sheet as rows
 use Rattle.rules.specs.Copy.{granted, granted_packages, released}
 use Rattle.wire.specs.Bits.{bit_at, with_bit}
+use Rattle.sheet.specs.Table.{rows_in}
 use Rattle.refusal.specs.declared.Why.TheVariants as why
 use Rattle.refusal.specs.declared.Why.TheVariants.{Ids}
+use Rattle.refusal.specs.declared.Refusal.{Refusal}
+use Rattle.refusal.specs.Numbers.{IDS, refused}
 use Rattle.message.specs.declared.Header.{Header}
 use Rattle.message.specs.declared.Package.{Package}
 use Rattle.message.specs.declared.Message as found
-use Rattle.message.specs.declared.MessageRead.{MessageRead}
-use Rattle.message.specs.declared.MessageRead.TheVariants as read
 use Rattle.message.specs.Answers.{told_message, payload_from, next_from}
 use Rattle.numbered.specs.declared.Size.{Size}
 use Rattle.numbered.specs.declared.Walked.{Walked}
-use Rattle.numbered.specs.declared.MessageTaken.{MessageTaken}
-use Rattle.numbered.specs.declared.MessageTaken.TheVariants as taking
 use Rattle.numbered.specs.declared.Kept.{Kept}
 use Rattle.numbered.specs.declared.Totals.{Totals}
 use Rattle.numbered.specs.declared.Progress.{Progress}
-use Rattle.numbered.specs.declared.Answer.{Answer}
-use Rattle.numbered.specs.declared.Answer.TheVariants as answer
+use Rattle.numbered.specs.declared.Counted.{Counted}
+use Rattle.numbered.specs.declared.Done.{Done}
+use Rattle.numbered.specs.declared.Numbered.{Numbered}
 use Rattle.numbered.specs.declared.Seats.{Seats}
 use Rattle.numbered.specs.declared.Reached.{Reached}
 use Rattle.numbered.specs.Quota.{bad_ids, most_entries}
@@ -90,19 +90,19 @@ pub record WalkedOver (rs : List rows.Row) (m : Message) (run marks marks' : Lis
   pub marked : (fs : List Bool) → length fs ≡ first → Tells marks fs → Tells marks' (fs ++ flags_of rs m pieces)
 
 -- the message, once its packages were walked over: that they end before its payload does, or are not as many as it says, is told here
-abbrev pub finished_by : Bool → Bool → ℕ → Header → Walked → MessageTaken
-finished_by true c at h w = taking.Refused (record { why = why.Package; place = payload_from at h + w.end })
-finished_by false true at h w = taking.Refused (record { why = why.Count; place = at })
-finished_by false false at h w = taking.Message (record { header = h; payload = payload_from at h; next = next_from at h; packages = w.all }) w.size
+abbrev pub finished_by : Bool → Bool → ℕ → Header → Walked → Result (found.Message × Size) Refusal
+finished_by true c at h w = Err (record { why = why.Package; place = payload_from at h + w.end })
+finished_by false true at h w = Err (record { why = why.Count; place = at })
+finished_by false false at h w = Ok (record { header = h; payload = payload_from at h; next = next_from at h; packages = w.all }, w.size)
 
-abbrev pub finished : List ℕ → ℕ → Header → Walked → MessageTaken
+abbrev pub finished : List ℕ → ℕ → Header → Walked → Result (found.Message × Size) Refusal
 finished input at h w =
     finished_by (ltb w.end (next_from at h - payload_from at h)) (differs (count_said (take (at + 24 + h.run - (at + 24)) (drop (at + 24) input))) w.all) at h w
 
 -- what was read, whatever is granted of it
-abbrev pub read_of : MessageTaken → MessageRead
-read_of (taking.Message m s) = read.Message m
-read_of (taking.Refused f) = read.Refused f
+abbrev pub read_of : Result (found.Message × Size) Refusal → Result found.Message Refusal
+read_of (Ok (m, s)) = Ok m
+read_of (Err f) = Err f
 
 -- the payload of a message that was read
 abbrev pub run_of : List ℕ → found.Message → List ℕ
@@ -115,12 +115,12 @@ pub record Measured (rs : List rows.Row) (input marks marks' : List ℕ) (first 
   pub marked : (cs : List (List ℕ)) → cut 0 (run_of input m) ≡ good cs → (fs : List Bool) → length fs ≡ first → Tells marks fs
       → Tells marks' (fs ++ flags_of rs (message_by m.header) cs)
 
-abbrev pub MeasuredIn : List rows.Row → List ℕ → List ℕ → List ℕ → ℕ → MessageTaken → Type 0
-MeasuredIn rs input marks marks' first (taking.Message m s) = Measured rs input marks marks' first m s
-MeasuredIn rs input marks marks' first (taking.Refused f) = Unit {0}
+abbrev pub MeasuredIn : List rows.Row → List ℕ → List ℕ → List ℕ → ℕ → Result (found.Message × Size) Refusal → Type 0
+MeasuredIn rs input marks marks' first (Ok (m, s)) = Measured rs input marks marks' first m s
+MeasuredIn rs input marks marks' first (Err f) = Unit {0}
 
 -- the message at this place is read and measured
-pub record Took (rs : List rows.Row) (input : List ℕ) (at : ℕ) (marks marks' : List ℕ) (first : ℕ) (r : MessageTaken) : Type 0 where
+pub record Took (rs : List rows.Row) (input : List ℕ) (at : ℕ) (marks marks' : List ℕ) (first : ℕ) (r : Result (found.Message × Size) Refusal) : Type 0 where
   pub told : told_message (read_of r) ≡ message_at input at
   pub measured : MeasuredIn rs input marks marks' first r
 
@@ -288,10 +288,26 @@ abbrev pub refused_ids : Bool → ℕ → List ℕ → ℕ → Bool
 refused_ids true most ids held = false
 refused_ids false most ids held = bad_ids most ids held
 
--- the answer once all is measured: IDS, if the ids are too many
-abbrev pub judged_by : Progress → Seats → Bool → Answer
-judged_by p seats true = answer.Refused (record { why = Ids; place = seats.over })
-judged_by p seats false = answer.Done p
+-- the ids can be held, and the rows of a sheet stand at the start of a table
+pub record Opens (alone : Bool) (most : ℕ) (ids : List ℕ) (held : ℕ) (sheetBytes table : List ℕ) (end : ℕ) : Type 0 where
+  pub held_good : refused_ids alone most ids held ≡ false
+  pub few : end ≤ 224
+  pub inside : end ≤ length table
+  pub read : rows.sheet sheetBytes ≡ good (rows_in (take end table))
 
-abbrev pub judged_as : Progress → Seats → ℕ → Answer
+-- or why not: the ids are refused, and otherwise the sheet
+pub record Shut (alone : Bool) (most : ℕ) (ids : List ℕ) (held : ℕ) (sheetBytes : List ℕ) (f : Refusal) : Type 0 where
+  pub why : (refuse (refused_ids alone most ids held) IDS 0 >> rows.sheet sheetBytes) ≡ refused f
+
+-- the answer once all is measured: IDS, if the ids are too many
+abbrev pub judged_by : Progress → Seats → Bool → Result Counted Refusal
+judged_by p seats true = Err (record { why = Ids; place = seats.over })
+judged_by p seats false = Ok (record { progress = p; many = seats.many })
+
+abbrev pub judged_as : Progress → Seats → ℕ → Result Counted Refusal
 judged_as p seats room = judged_by p seats (ltb room seats.many)
+
+-- the answer, and how many ids are then held
+abbrev pub answered : Result Done Refusal → ℕ → Numbered
+answered (Ok d) held = record { answer = Ok d.progress; held = d.held }
+answered (Err f) held = record { answer = Err f; held = held }

@@ -1,14 +1,13 @@
 -- What measuring and copying tell.
-use Rattle.std.specs.Prelude.{ℕ, ◌+◌, ◌≤◌, ◌≡◌, Bool, List, [], ◌++◌, map, length, take}
+use Rattle.std.specs.Prelude.{ℕ, ◌+◌, ◌≤◌, ◌≡◌, Bool, List, [], ◌++◌, map, length, take, Result, Ok, Err}
 use Rattle.rules.specs.Outcome.{Outcome, good, ◌>>◌, ◌>>=◌}
 use Rattle.rules.specs.Message.{not_large}
 use Rattle.rules.specs.Sheet as rows
 use Rattle.rules.specs.Copy.{Entry, released, packages_in}
-use Rattle.refusal.specs.Numbers.{number_of, refused}
+use Rattle.refusal.specs.declared.Refusal.{Refusal}
+use Rattle.refusal.specs.Numbers.{number_of, outcome_by, outcome_of}
 use Rattle.numbered.specs.declared.Totals.{Totals}
 use Rattle.numbered.specs.declared.Progress.{Progress}
-use Rattle.numbered.specs.declared.Answer.{Answer}
-use Rattle.numbered.specs.declared.Answer.TheVariants as answer
 use Rattle.numbered.specs.declared.Numbered.{Numbered}
 use Rattle.numbered.specs.declared.Counted.{Counted}
 use Rattle.numbered.specs.Numbering.{numbers_after, numbered_bytes, State, id_of}
@@ -30,27 +29,29 @@ measured rs input quota known room = do
   ids_fit (length known + room) rs (named known) ts
   good (progress (length ts) (bytes_taken ts) (totals (released rs (map message_of ts))))
 
-abbrev pub told_measure : Answer → Outcome Progress
-told_measure (answer.Done p) = good p
-told_measure (answer.Refused f) = refused f
+abbrev pub told_measure : Result Progress Refusal → Outcome Progress
+told_measure r = outcome_of r
+
+abbrev pub progress_of : Counted → Progress
+progress_of c = c.progress
 
 -- where it is done, bits tell of each package that is taken whether it is granted
-pub record MarkedBy (rs : List rows.Row) (input : List ℕ) (quota : ℕ) (marks : List ℕ) (r : Answer) : Type 0 where
-  pub tells : (p : Progress) → r ≡ answer.Done p → (ts : List Taken) → taken_from input quota ≡ good ts → Tells marks (flags_in rs (map message_of ts))
+pub record MarkedBy {A : Type 0} (rs : List rows.Row) (input : List ℕ) (quota : ℕ) (marks : List ℕ) (r : Result A Refusal) : Type 0 where
+  pub tells : (a : A) → r ≡ Ok a → (ts : List Taken) → taken_from input quota ≡ good ts → Tells marks (flags_in rs (map message_of ts))
 
 -- r tells what is measured; where it is done and all ids were counted, the fresh ones are so many, and stand first
-pub record Counts (rs : List rows.Row) (input : List ℕ) (quota : ℕ) (known : List ℕ) (room : ℕ) (fresh marks : List ℕ) (r : Counted) : Type 0 where
-  pub marked : MarkedBy rs input quota marks r.answer
-  pub told : told_measure r.answer ≡ measured rs input quota known room
-  pub small : (p : Progress) → r.answer ≡ answer.Done p → p.bytes ≤ 65536
-  pub few : (p : Progress) → r.answer ≡ answer.Done p → r.many ≤ room
-  pub ids : (p : Progress) → r.answer ≡ answer.Done p → room ≤ 64 → (ts : List Taken) → taken_from input quota ≡ good ts
-      → map id_of (numbers_after (named known) (released rs (map message_of ts))) ≡ known ++ take r.many fresh
+pub record Counts (rs : List rows.Row) (input : List ℕ) (quota : ℕ) (known : List ℕ) (room : ℕ) (fresh marks : List ℕ) (r : Result Counted Refusal) : Type 0 where
+  pub marked : MarkedBy rs input quota marks r
+  pub told : outcome_by progress_of r ≡ measured rs input quota known room
+  pub small : (c : Counted) → r ≡ Ok c → c.progress.bytes ≤ 65536
+  pub few : (c : Counted) → r ≡ Ok c → c.many ≤ room
+  pub ids : (c : Counted) → r ≡ Ok c → room ≤ 64 → (ts : List Taken) → taken_from input quota ≡ good ts
+      → map id_of (numbers_after (named known) (released rs (map message_of ts))) ≡ known ++ take c.many fresh
 
 -- an answer's numbers
-abbrev pub report : Answer → Report
-report (answer.Done p) = record { number = 0; place = 0; handled = p.handled; consumed = p.consumed; bytes = p.bytes; messages = p.messages; packages = p.packages }
-report (answer.Refused f) = record { number = number_of f.why; place = f.place; handled = 0; consumed = 0; bytes = 0; messages = 0; packages = 0 }
+abbrev pub report : Result Progress Refusal → Report
+report (Ok p) = record { number = 0; place = 0; handled = p.handled; consumed = p.consumed; bytes = p.bytes; messages = p.messages; packages = p.packages }
+report (Err f) = record { number = number_of f.why; place = f.place; handled = 0; consumed = 0; bytes = 0; messages = 0; packages = 0 }
 
 abbrev pub state_of : List ℕ → List ℕ → ℕ → State
 state_of ids next held = record { ids = ids; next = next; held = held }

@@ -3,22 +3,21 @@
 // ROOM; writing goes over them once more.
 #![tactic(auto)]
 
-ghost use Rattle.std.specs.Prelude.{◌≡◌, [], false, ◌+◌, ◌-◌, ◌*◌, ◌%◌, ◌^◌, ◌≤◌, ◌<◌, ltb, length, get_or, take, drop};
+ghost use Rattle.std.specs.Prelude.{◌≡◌, [], false, ◌+◌, ◌-◌, ◌*◌, ◌%◌, ◌^◌, ◌≤◌, ◌<◌, ltb, length, get_or, take, drop, MatchResult};
 ghost use Rattle.std.proofs.lemmas.List.Edits.{sets};
 ghost use Rattle.rules.specs.Bytes.{put32};
 ghost use Rattle.rules.specs.Items.{count};
 ghost use Rattle.message.specs.Answers.{payload_from, next_from};
 ghost use Rattle.sheet.specs.Table.{rows_in};
 ghost use Rattle.numbered.specs.Quota.{bad_ids, some_twice, settled, measured_ids, shorter, most_in};
-ghost use Rattle.numbered.specs.Parts.{message_by, WalkedOver, finished, Took, with_package, with_entry, Placed, piece_as, Stored, StoredRun, picked, head_bytes, Place, Sees, slot_of, held_with, number_at, Ready, Delivered, Roomy, Wrote, Tells, Marked, Single, Seated, judged_as, known_of, room_of, Most, refused_ids};
+ghost use Rattle.numbered.specs.Parts.{message_by, WalkedOver, finished, Took, with_package, with_entry, Placed, piece_as, Stored, StoredRun, picked, head_bytes, Place, Sees, slot_of, held_with, number_at, Ready, Delivered, Roomy, Wrote, Tells, Marked, Single, Seated, judged_as, known_of, room_of, Most, refused_ids, Opens, Shut, answered};
 ghost use Rattle.numbered.specs.Told.{progress, told_measure, measured, Counts, MarkedBy, state_of, told, told_ids, MeasuredIds, Copied};
 
 use message::{
-    Count, Header, Message, Package, PackageRead, front_run, header_in, miscounts, package_at,
-    package_time,
+    Header, Message, Package, front_run, header_in, miscounts, package_at, package_time,
 };
-use refusal::{Refusal, Why};
-use sheet::{TableAnswer, near_grants, near_rows, read_table, source_of};
+use refusal::{Refusal, Why, refuse};
+use sheet::{near_grants, near_rows, read_table, source_of};
 use wire::{bit_at, put_bit, put_byte, put_part, put_word, word_at};
 
 // The granted packages of a message: how many, and the bytes that they take.
@@ -57,11 +56,11 @@ fn measure_packages(
     run: &[u8],
     h: Header,
     table: &[u64],
-    near: &mut [u64],
-    marks: &mut [u8],
+    near: &mut [u64; 128],
+    marks: &mut [u8; 683],
     first: usize,
 ) -> Walked
-    requires { (12 * first + length run.now ≤ 65536) × (length table.now ≤ 224) × (length near.old ≡ 128) × (length marks.old ≡ 683) }
+    requires { (12 * first + length run.now ≤ 65536) × (length table.now ≤ 224) }
     ensures { WalkedOver (rows_in table.now) (message_by h) run.now marks.old marks.new first result }
 {
     let many = near_rows(table, source_of(h), near);
@@ -72,8 +71,7 @@ fn measure_packages(
     let mut all = 0;
     let mut rest = run;
     while 0 < rest.len() {
-        let found = package_at(rest, 0);
-        let PackageRead::Package(p) = found else {
+        let Ok(Some(p)) = package_at(rest, 0) else {
             let end = run.len() - rest.len();
             return Walked { size, all, end };
         };
@@ -90,44 +88,30 @@ fn measure_packages(
     Walked { size, all, end }
 }
 
-// A message that passes every check, and what is granted of it; or why it is refused.
-#[derive(Clone, Copy)]
-enum MessageTaken {
-    Message(Message, Size),
-    Refused(Refusal),
-}
-
-// The checks that are left once the packages of a message were walked over: that they fill its payload, and are as many as it says.
-fn finish_message(input: &[u8], at: usize, h: Header, w: Walked) -> MessageTaken
+// The checks that are left once the packages of a message were walked over: that they fill its payload, and are as many as it says. Beside a message
+// that passes stands what is granted of it.
+fn finish_message(input: &[u8], at: usize, h: Header, w: Walked) -> Result<(Message, Size), Refusal>
     requires { (length input.now ≤ 65536) × (payload_from at h ≤ next_from at h) × (next_from at h ≤ length input.now) × (at + 24 + h.run ≤ length input.now) × (w.end ≤ 65536) }
     ensures { result ≡ finished input.now at h w }
 {
     let payload = at + (24 + 4 * h.words as usize);
     let next = at + h.length as usize;
     if w.end < next - payload {
-        return MessageTaken::Refused(Refusal {
-            why: Why::Package,
-            place: payload + w.end,
-        });
+        return refuse(Why::Package, payload + w.end);
     }
     let from = at + 24;
     let to = from + h.run;
     if miscounts(&input[from..to], w.all) {
-        return MessageTaken::Refused(Refusal {
-            why: Why::Count,
-            place: at,
-        });
+        return refuse(Why::Count, at);
     }
     let size = w.size;
-    MessageTaken::Message(
-        Message {
-            header: h,
-            payload,
-            next,
-            packages: w.all,
-        },
-        size,
-    )
+    let message = Message {
+        header: h,
+        payload,
+        next,
+        packages: w.all,
+    };
+    Ok((message, size))
 }
 
 // The message at place `at` of an input: checked and measured in one walk over its packages.
@@ -135,24 +119,19 @@ fn take_message(
     input: &[u8],
     at: usize,
     table: &[u64],
-    near: &mut [u64],
-    marks: &mut [u8],
+    near: &mut [u64; 128],
+    marks: &mut [u8; 683],
     first: usize,
-) -> MessageTaken
-    requires { (length input.now ≤ 65536) × (12 * first ≤ at) × (length table.now ≤ 224) × (length near.old ≡ 128) × (length marks.old ≡ 683) }
+) -> Result<(Message, Size), Refusal>
+    requires { (length input.now ≤ 65536) × (12 * first ≤ at) × (length table.now ≤ 224) }
     ensures { Took (rows_in table.now) input.now at marks.old marks.new first result }
 {
-    let found = front_run(input, at);
-    match found {
-        Count::Refused(f) => MessageTaken::Refused(f),
-        Count::Number(run) => {
-            let h = header_in(input, at, run);
-            let from = at + (24 + 4 * h.words as usize);
-            let next = at + h.length as usize;
-            let walked = measure_packages(&input[from..next], h, table, near, marks, first);
-            finish_message(input, at, h, walked)
-        }
-    }
+    let run = front_run(input, at)?;
+    let h = header_in(input, at, run);
+    let from = at + (24 + 4 * h.words as usize);
+    let next = at + h.length as usize;
+    let walked = measure_packages(&input[from..next], h, table, near, marks, first);
+    finish_message(input, at, h, walked)
 }
 
 // What the copy takes so far.
@@ -188,12 +167,6 @@ pub struct Progress {
     pub packages: usize,
 }
 
-#[derive(Clone, Copy)]
-pub enum Answer {
-    Done(Progress),
-    Refused(Refusal),
-}
-
 // Where an id stands among ids that are all different, or how many they are.
 fn place_of(ids: &[u32], id: u32) -> usize
     requires { (length ids.now ≤ 65536) × (count id ids.now ≤ 1) }
@@ -202,13 +175,11 @@ fn place_of(ids: &[u32], id: u32) -> usize
     // How many stand from the id on: a sum, which no test ends early, so that several ids are compared at once.
     let mut behind: u32 = 0;
     let mut left = ids.len() as u32;
-    let mut i = 0;
-    while i < ids.len() {
-        if ids[i] == id {
+    for other in ids {
+        if *other == id {
             behind += left;
         }
         left -= 1;
-        i += 1;
     }
     ids.len() - behind as usize
 }
@@ -237,14 +208,14 @@ struct Seats {
 // Where there is room for more than 64, there is room for all, and nothing is counted.
 fn seat(
     known: &[u32],
-    fresh: &mut [u32],
+    fresh: &mut [u32; 64],
     seats: Seats,
     room: usize,
     id: u32,
     packages: usize,
     k: usize,
 ) -> Seats
-    requires { (length known.now ≤ 65536) × (count id known.now ≤ 1) × (length fresh.old ≡ 64) × (room ≤ 64 → seats.many ≤ room → count id (take seats.many fresh.old) ≤ 1) }
+    requires { (length known.now ≤ 65536) × (count id known.now ≤ 1) × (room ≤ 64 → seats.many ≤ room → count id (take seats.many fresh.old) ≤ 1) }
     ensures { Seated known.now fresh.old fresh.new seats result room id packages k }
 {
     if packages == 0 {
@@ -272,42 +243,22 @@ fn seat(
     }
 }
 
-// The answer once all is measured: the ids are too many, or all is done.
-fn judged(p: Progress, seats: Seats, room: usize) -> Answer
-    ensures { result ≡ judged_as p seats room }
-{
-    if room < seats.many {
-        return Answer::Refused(Refusal {
-            why: Why::Ids,
-            place: seats.over,
-        });
-    }
-    Answer::Done(p)
-}
-
 // What measuring comes to, and how many fresh ids it brought.
 #[derive(Clone, Copy)]
 struct Counted {
-    answer: Answer,
+    progress: Progress,
     many: usize,
 }
 
-fn count_of(p: Progress, seats: Seats, room: usize) -> Counted
-    ensures { result ≡ record { answer = judged_as p seats room; many = seats.many } }
+// The answer once all is measured: the ids are too many, or all is done.
+fn judged(progress: Progress, seats: Seats, room: usize) -> Result<Counted, Refusal>
+    ensures { result ≡ judged_as progress seats room }
 {
-    Counted {
-        answer: judged(p, seats, room),
-        many: seats.many,
+    let many = seats.many;
+    if room < many {
+        return refuse(Why::Ids, seats.over);
     }
-}
-
-fn refused_count(f: Refusal) -> Counted
-    ensures { result.answer ≡ Answer.Refused f }
-{
-    Counted {
-        answer: Answer::Refused(f),
-        many: 0,
-    }
+    Ok(Counted { progress, many })
 }
 
 // What the copy of the messages within the quota takes under the rows of a table, where these ids are known and there is room for so many more; or why it is
@@ -318,17 +269,14 @@ fn count_messages(
     quota: usize,
     known: &[u32],
     room: usize,
-    fresh: &mut [u32],
-    marks: &mut [u8],
-) -> Counted
-    requires { (length known.now ≤ 65536) × Single known.now × (64 < room → 1820 ≤ room) × (length fresh.old ≡ 64) × (length table.now ≤ 224) × (length marks.old ≡ 683) × Tells marks.old [] }
+    fresh: &mut [u32; 64],
+    marks: &mut [u8; 683],
+) -> Result<Counted, Refusal>
+    requires { (length known.now ≤ 65536) × Single known.now × (64 < room → 1820 ≤ room) × (length table.now ≤ 224) × Tells marks.old [] }
     ensures { Counts (rows_in table.now) input.now quota known.now room fresh.new marks.new result }
 {
     if 65536 < input.len() {
-        return refused_count(Refusal {
-            why: Why::Large,
-            place: 65536,
-        });
+        return refuse(Why::Large, 65536);
     }
     // Room for all 32 rows of a sheet, four numbers each.
     let mut near = [0u64; 128];
@@ -343,24 +291,17 @@ fn count_messages(
     let mut passed = 0;
     while at < input.len() {
         if handled == quota {
-            return count_of(taken_with(handled, at, totals), seats, room);
+            return judged(taken_with(handled, at, totals), seats, room);
         }
-        let found = take_message(input, at, table, &mut near, marks, passed);
-        match found {
-            MessageTaken::Message(m, size) => {
-                let h = m.header;
-                totals = with_entry(totals, size);
-                seats = seat(known, fresh, seats, room, h.id.0, size.packages, at);
-                handled += 1;
-                at = m.next;
-                passed += m.packages;
-            }
-            MessageTaken::Refused(f) => {
-                return refused_count(f);
-            }
-        }
+        let (m, size) = take_message(input, at, table, &mut near, marks, passed)?;
+        let h = m.header;
+        totals = with_entry(totals, size);
+        seats = seat(known, fresh, seats, room, h.id.0, size.packages, at);
+        handled += 1;
+        at = m.next;
+        passed += m.packages;
     }
-    count_of(taken_with(handled, at, totals), seats, room)
+    judged(taken_with(handled, at, totals), seats, room)
 }
 
 // The same, without the fresh ids.
@@ -370,14 +311,14 @@ fn measure_messages(
     quota: usize,
     known: &[u32],
     room: usize,
-    marks: &mut [u8],
-) -> Answer
-    requires { (length known.now ≤ 65536) × Single known.now × (64 < room → 1820 ≤ room) × (length table.now ≤ 224) × (length marks.old ≡ 683) × Tells marks.old [] }
+    marks: &mut [u8; 683],
+) -> Result<Progress, Refusal>
+    requires { (length known.now ≤ 65536) × Single known.now × (64 < room → 1820 ≤ room) × (length table.now ≤ 224) × Tells marks.old [] }
     ensures { (told_measure result ≡ measured (rows_in table.now) input.now quota known.now room) × MarkedBy (rows_in table.now) input.now quota marks.new result }
 {
     let mut fresh = [0u32; 64];
-    let counted = count_messages(input, table, quota, known, room, &mut fresh, marks);
-    counted.answer
+    let counted = count_messages(input, table, quota, known, room, &mut fresh, marks)?;
+    Ok(counted.progress)
 }
 
 // Stores two words, one behind the other.
@@ -432,8 +373,7 @@ fn write_packages(run: &[u8], marks: &[u8], first: usize, out: &mut [u8], to: us
     let mut all = 0;
     let mut rest = run;
     while 0 < rest.len() {
-        let found = package_at(rest, 0);
-        let PackageRead::Package(p) = found else {
+        let Ok(Some(p)) = package_at(rest, 0) else {
             return Kept {
                 bytes: end - to,
                 all,
@@ -495,10 +435,7 @@ fn number_at(next: &[u32], place: usize, held: usize) -> u32
 fn one_on(n: u32) -> u32
     ensures { result ≡ (n + 1) % 2 ^ 32 }
 {
-    if n == 4294967295 {
-        return 0;
-    }
-    n + 1
+    n.wrapping_add(1)
 }
 
 // An id's place among the bits that tell which ids may be held.
@@ -520,14 +457,12 @@ fn place_seen(ids: &[u32], seen: &[u8], id: u32) -> usize
 }
 
 // Sets the bits of ids.
-fn see(ids: &[u32], seen: &mut [u8])
-    requires { (length seen.old ≡ 512) × Sees seen.old [] }
+fn see(ids: &[u32], seen: &mut [u8; 512])
+    requires { Sees seen.old [] }
     ensures { Sees seen.new ids.now }
 {
-    let mut i = 0;
-    while i < ids.len() {
-        put_bit(seen, slot_of(ids[i]), true);
-        i += 1;
+    for id in ids {
+        put_bit(seen, slot_of(*id), true);
     }
 }
 
@@ -538,10 +473,10 @@ fn deliver(
     bytes: usize,
     ids: &mut [u32],
     next: &mut [u32],
-    seen: &mut [u8],
+    seen: &mut [u8; 512],
     done: Reached,
 ) -> Reached
-    requires { (done.to + (24 + bytes) ≤ 65536) × (length seen.old ≡ 512) × ((bytes ≡ 0 → ⊥) → Ready ids.old next.old seen.old done.held h.id.0) }
+    requires { (done.to + (24 + bytes) ≤ 65536) × ((bytes ≡ 0 → ⊥) → Ready ids.old next.old seen.old done.held h.id.0) }
     ensures { Delivered h bytes out.old out.new ids.old ids.new next.old next.new seen.old seen.new done result }
 {
     if bytes == 0 {
@@ -605,31 +540,22 @@ fn again(ids: &[u32], i: usize) -> bool
     requires { i < length ids.now }
     ensures { result ≡ ltb 0 (count (get_or ids.now i 0) (drop (i + 1) ids.now)) }
 {
-    let id = ids[i];
-    let mut k = i + 1;
-    while k < ids.len() {
-        if ids[k] == id {
-            return true;
-        }
-        k += 1;
-    }
-    false
+    ids[i + 1..].contains(&ids[i])
 }
 
 fn some_twice(ids: &[u32]) -> bool
     ensures { result ≡ some_twice ids.now }
 {
-    let mut i = 0;
-    while i < ids.len() {
+    for i in 0..ids.len() {
         if again(ids, i) {
             return true;
         }
-        i += 1;
     }
     false
 }
 
 // Whether the first `held` of ids cannot be held: they are more than may be, or one of them stands twice. Measuring alone does not look at them.
+#[tactic(auto, unfolding(crate::specs::Quota::bad_ids))]
 fn bad_ids(ids: &[u32], held: usize, most: usize, measured: bool) -> bool
     requires { most ≤ length ids.now }
     ensures { result ≡ refused_ids measured most ids.now held }
@@ -643,24 +569,15 @@ fn bad_ids(ids: &[u32], held: usize, most: usize, measured: bool) -> bool
     some_twice(&ids[..held])
 }
 
-fn shorter(m: usize, n: usize) -> usize
-    ensures { result ≡ shorter m n }
-{
-    if m <= n {
-        return m;
-    }
-    n
-}
-
 // The most ids that may be held in so many places.
 fn most_in(places: usize, held: usize) -> usize
     ensures { result ≡ most_in places held }
 {
     if held != 0 {
-        return shorter(places, 64);
+        return places.min(64);
     }
     if places < 1820 {
-        return shorter(places, 64);
+        return places.min(64);
     }
     1820
 }
@@ -684,10 +601,52 @@ fn room_of(most: usize, held: usize, measured: bool) -> usize
     most - held
 }
 
+// What a copy answers, and how many ids are then held: those that were, where it is refused.
 #[derive(Clone, Copy)]
 pub struct Numbered {
-    pub answer: Answer,
+    pub answer: Result<Progress, Refusal>,
     pub held: usize,
+}
+
+// What is done, and how many ids are then held.
+#[derive(Clone, Copy)]
+struct Done {
+    progress: Progress,
+    held: usize,
+}
+
+fn answered(done: Result<Done, Refusal>, held: usize) -> Numbered
+    ensures { result ≡ answered done held }
+{
+    match done {
+        Ok(d) => Numbered {
+            answer: Ok(d.progress),
+            held: d.held,
+        },
+        Err(f) => Numbered {
+            answer: Err(f),
+            held,
+        },
+    }
+}
+
+// Reads a sheet into a table, where the ids can be held, and says where its rows end there.
+fn read_rows(
+    sheet: &[u8],
+    table: &mut [u64; 224],
+    ids: &[u32],
+    held: usize,
+    most: usize,
+    measured: bool,
+) -> Result<usize, Refusal>
+    requires { most ≤ length ids.now }
+    ensures { MatchResult result (λ end. Opens measured most ids.now held sheet.now table.new end) (λ f. Shut measured most ids.now held sheet.now f) }
+{
+    if bad_ids(ids, held, most, measured) {
+        return refuse(Why::Ids, 0);
+    }
+    let n = read_table(sheet, table)?;
+    Ok(7 * n)
 }
 
 // The copy under the rows of a sheet, with ids that can be held: all messages are measured before the first store.
@@ -701,44 +660,56 @@ fn copy_under(
     most: usize,
     out: &mut [u8],
     measured: bool,
-) -> Numbered
+) -> Result<Done, Refusal>
     requires { (refused_ids measured most ids.old held ≡ false) × Most (shorter (length ids.old) (length next.old)) held most × (length table.now ≤ 224) }
-    ensures { Copied (rows_in table.now) measured most input.now quota (state_of ids.old next.old held) out.old (told result ids.new next.new out.new) }
+    ensures { Copied (rows_in table.now) measured most input.now quota (state_of ids.old next.old held) out.old (told (answered result held) ids.new next.new out.new) }
 {
     let known = known_of(held, measured);
     let room = room_of(most, held, measured);
     // A bit for each package, of which an input has 5,461 at most.
     let mut marks = [0u8; 683];
-    let size = measure_messages(input, table, quota, &ids[..known], room, &mut marks);
-    match size {
-        Answer::Refused(f) => Numbered {
-            answer: Answer::Refused(f),
-            held,
-        },
-        Answer::Done(p) => {
-            if measured {
-                return Numbered {
-                    answer: Answer::Done(p),
-                    held,
-                };
-            }
-            if out.len() < p.bytes {
-                return Numbered {
-                    answer: Answer::Refused(Refusal {
-                        why: Why::Room,
-                        place: p.bytes,
-                    }),
-                    held,
-                };
-            }
-            let consumed = p.consumed;
-            let after = write_messages(&input[..consumed], table, &marks, ids, next, held, out);
-            Numbered {
-                answer: Answer::Done(p),
-                held: after,
-            }
-        }
+    let progress = measure_messages(input, table, quota, &ids[..known], room, &mut marks)?;
+    if measured {
+        return Ok(Done { progress, held });
     }
+    if out.len() < progress.bytes {
+        return refuse(Why::Room, progress.bytes);
+    }
+    let consumed = progress.consumed;
+    let after = write_messages(&input[..consumed], table, &marks, ids, next, held, out);
+    Ok(Done {
+        progress,
+        held: after,
+    })
+}
+
+// The copy, or why it is refused.
+fn try_copy(
+    input: &[u8],
+    sheet: &[u8],
+    quota: usize,
+    ids: &mut [u32],
+    next: &mut [u32],
+    held: usize,
+    out: &mut [u8],
+    measured: bool,
+) -> Result<Done, Refusal>
+    ensures { told (answered result held) ids.new next.new out.new ≡ settled measured (most_in (shorter (length ids.old) (length next.old)) held) input.now sheet.now quota (state_of ids.old next.old held) out.old }
+{
+    let most = most_in(ids.len().min(next.len()), held);
+    let mut table = [0u64; 224];
+    let end = read_rows(sheet, &mut table, ids, held, most, measured)?;
+    copy_under(
+        input,
+        &table[..end],
+        quota,
+        ids,
+        next,
+        held,
+        most,
+        out,
+        measured,
+    )
 }
 
 // The copy of the first `quota` messages of an input, or of all there are, under a sheet, into a buffer. The first `held` of ids are message ids, each
@@ -757,38 +728,8 @@ pub fn copy(
 ) -> Numbered
     ensures { told result ids.new next.new out.new ≡ settled measured (most_in (shorter (length ids.old) (length next.old)) held) input.now sheet.now quota (state_of ids.old next.old held) out.old }
 {
-    let most = most_in(shorter(ids.len(), next.len()), held);
-    if bad_ids(ids, held, most, measured) {
-        return Numbered {
-            answer: Answer::Refused(Refusal {
-                why: Why::Ids,
-                place: 0,
-            }),
-            held,
-        };
-    }
-    let mut table = [0u64; 224];
-    let read = read_table(sheet, &mut table);
-    match read {
-        TableAnswer::Refused(f) => Numbered {
-            answer: Answer::Refused(f),
-            held,
-        },
-        TableAnswer::Rows(n) => {
-            let end = 7 * n;
-            copy_under(
-                input,
-                &table[..end],
-                quota,
-                ids,
-                next,
-                held,
-                most,
-                out,
-                measured,
-            )
-        }
-    }
+    let done = try_copy(input, sheet, quota, ids, next, held, out, measured);
+    answered(done, held)
 }
 
 // Stores the first n of `fresh` behind the first `held` of ids.
@@ -796,11 +737,7 @@ fn put_behind(ids: &mut [u32], held: usize, fresh: &[u32], n: usize)
     requires { (held + n ≤ length ids.old) × (held + n ≤ 65536) × (n ≤ length fresh.now) }
     ensures { ids.new ≡ sets ids.old held (take n fresh.now) }
 {
-    let mut i = 0;
-    while i < n {
-        ids[held + i] = fresh[i];
-        i += 1;
-    }
+    ids[held..held + n].copy_from_slice(&fresh[..n]);
 }
 
 // Measured under the rows of a sheet, with ids that can be held.
@@ -811,9 +748,9 @@ fn measure_under(
     ids: &mut [u32],
     held: usize,
     most: usize,
-) -> Numbered
+) -> Result<Done, Refusal>
     requires { (bad_ids most ids.old held ≡ false) × (most ≤ 64) × (most ≤ length ids.old) × (length table.now ≤ 224) }
-    ensures { MeasuredIds (rows_in table.now) most input.now quota ids.old held (told_ids result ids.new) }
+    ensures { MeasuredIds (rows_in table.now) most input.now quota ids.old held (told_ids (answered result held) ids.new) }
 {
     let mut fresh = [0u32; 64];
     let mut marks = [0u8; 683];
@@ -825,22 +762,28 @@ fn measure_under(
         most - held,
         &mut fresh,
         &mut marks,
-    );
-    let many = counted.many;
-    let answer = counted.answer;
-    match answer {
-        Answer::Refused(f) => Numbered {
-            answer: Answer::Refused(f),
-            held,
-        },
-        Answer::Done(p) => {
-            put_behind(ids, held, &fresh, many);
-            Numbered {
-                answer: Answer::Done(p),
-                held: held + many,
-            }
-        }
-    }
+    )?;
+    put_behind(ids, held, &fresh, counted.many);
+    Ok(Done {
+        progress: counted.progress,
+        held: held + counted.many,
+    })
+}
+
+// What is measured, or why it is refused.
+fn try_measure(
+    input: &[u8],
+    sheet: &[u8],
+    quota: usize,
+    ids: &mut [u32],
+    held: usize,
+) -> Result<Done, Refusal>
+    ensures { told_ids (answered result held) ids.new ≡ measured_ids (shorter (length ids.old) 64) input.now sheet.now quota ids.old held }
+{
+    let most = ids.len().min(64);
+    let mut table = [0u64; 224];
+    let end = read_rows(sheet, &mut table, ids, held, most, false)?;
+    measure_under(input, &table[..end], quota, ids, held, most)
 }
 
 // What a copy of the first `quota` messages reports where there is room for it, with the ids that are then held, 64 at most. Nothing is written, and
@@ -848,26 +791,6 @@ fn measure_under(
 pub fn measure(input: &[u8], sheet: &[u8], quota: usize, ids: &mut [u32], held: usize) -> Numbered
     ensures { told_ids result ids.new ≡ measured_ids (shorter (length ids.old) 64) input.now sheet.now quota ids.old held }
 {
-    let most = shorter(ids.len(), 64);
-    if bad_ids(ids, held, most, false) {
-        return Numbered {
-            answer: Answer::Refused(Refusal {
-                why: Why::Ids,
-                place: 0,
-            }),
-            held,
-        };
-    }
-    let mut table = [0u64; 224];
-    let read = read_table(sheet, &mut table);
-    match read {
-        TableAnswer::Refused(f) => Numbered {
-            answer: Answer::Refused(f),
-            held,
-        },
-        TableAnswer::Rows(n) => {
-            let end = 7 * n;
-            measure_under(input, &table[..end], quota, ids, held, most)
-        }
-    }
+    let done = try_measure(input, sheet, quota, ids, held);
+    answered(done, held)
 }

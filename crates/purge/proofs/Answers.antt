@@ -14,18 +14,18 @@ use Rattle.rules.specs.Sheet as rows
 use Rattle.rules.proofs.Outcomes.{step, stop, passed, stepped, refused-only}
 use Rattle.refusal.specs.declared.Refusal.{Refusal}
 use Rattle.refusal.specs.Numbers.{number_of, refused}
-use Rattle.compose.specs.declared.Written.TheVariants as written
+use Rattle.std.specs.Prelude.{Ok, Err}
 use Rattle.compose.specs.Told.{told}
 use Rattle.purge.specs.Purge.{kept_records, kept_bytes, kept_of, purged, purge}
 use Rattle.purge.specs.Parts.{KeptAll}
 use Rattle.purge.proofs.Whole.{purge-is}
 
-pub sheet-refused : (buffer sheetBytes : List ℕ) (f : Refusal) → rows.sheet sheetBytes ≡ bad (number_of f.why) f.place → told (written.Refused f) buffer ≡ purge buffer sheetBytes
+pub sheet-refused : (buffer sheetBytes : List ℕ) (f : Refusal) → rows.sheet sheetBytes ≡ bad (number_of f.why) f.place → told (Err f) buffer ≡ purge buffer sheetBytes
 unfolding purge kept_of purged
 sheet-refused buffer sheetBytes f e = sym (ap (purged buffer) (stop _ _ e))
 
 module _ (buffer sheetBytes : List ℕ) (rs : List rows.Row) (valid : rows.sheet sheetBytes ≡ good rs) where
-  pub recording-refused : (f : Refusal) → refused f ≡ checked_recording buffer → told (written.Refused f) buffer ≡ purge buffer sheetBytes
+  pub recording-refused : (f : Refusal) → refused f ≡ checked_recording buffer → told (Err f) buffer ≡ purge buffer sheetBytes
   unfolding checked_recording purge kept_of purged
   recording-refused f e =
       let b : recording buffer ≡ bad (number_of f.why) f.place = refused-only _ _ (sym e) in
@@ -65,5 +65,5 @@ module _ (buffer sheetBytes : List ℕ) (rs : List rows.Row) (valid : rows.sheet
           sets-eq (replicate (length out - r) 0) out r (omega (arith, used))
           ∙ rw (drop_of_length-le out h, append-nil, (z.right passes.ms passes.read).1, z.long, used-is)
 
-      pub all_done : (after : List ℕ) → after ≡ sets out r (replicate (length out - r) 0) → told (written.Done r) after ≡ purge buffer sheetBytes
+      pub all_done : (after : List ℕ) → after ≡ sets out r (replicate (length out - r) 0) → told (Ok r) after ≡ purge buffer sheetBytes
       all_done after q = rw (q, freed, used-is) (sym (purge-is buffer sheetBytes (kept_records rs passes.ms) kept_of_lem))

@@ -24,8 +24,9 @@ use Rattle.rules.proofs.Loops.{Passing, passing-start, passing-next, passing-end
 use Rattle.refusal.specs.Numbers.{number_of}
 use Rattle.message.specs.declared.Header.{Header}
 use Rattle.message.specs.declared.Package.{Package}
-use Rattle.message.specs.declared.PackageRead.{PackageRead}
-use Rattle.message.specs.declared.PackageRead.TheVariants as P
+use Rattle.std.specs.Prelude.{Some, None, Result, Ok, Err}
+use Rattle.std.specs.Prelude as std
+use Rattle.refusal.specs.declared.Refusal.{Refusal}
 use Rattle.message.specs.Answers.{told_package}
 use Rattle.sheet.specs.Table.{rows_in, near_of, near_grants}
 use Rattle.numbered.specs.Parts.{message_by, payload_of}
@@ -136,14 +137,14 @@ module _ (table : List ℕ) (h : Header) (from to : ℕ) (s₀ : List ℕ) (ahea
       small_too : length s ≤ 65536
       small_too = omega (arith, inv.long)
 
-      pub slide_stopped : (x : PackageRead) → NoPackage x → told_package x ≡ package_at s k → Slid sheet it from to s₀ s l
-      slide_stopped (P.Package p) o q = absurd (no_package p o)
-      slide_stopped P.End o q = absurd (no_end s k small_too e q)
-      slide_stopped (P.Refused f) o q =
+      pub slide_stopped : (x : Result (std.Option Package) Refusal) → NoPackage x → told_package x ≡ package_at s k → Slid sheet it from to s₀ s l
+      slide_stopped (Ok (Some p)) o q = absurd (no_package p o)
+      slide_stopped (Ok None) o q = absurd (no_end s k small_too e q)
+      slide_stopped (Err f) o q =
           let b : piece k (drop inv.i (drop from s₀)) ≡ bad (number_of f.why) f.place = rw unread (no_piece s k small_too e f q) in
           slid (λ cs c. absurd (good≢bad (sym (passing-bad piece from (drop from s₀) inv.done inv.i k inv.passing less b) ∙ c)))
 
-      module _ (p : Package) (q : told_package (P.Package p) ≡ package_at s k) where
+      module _ (p : Package) (q : told_package (Ok (Some p)) ≡ package_at s k) where
         abbrev f : Found s k p
         f = found s k p q
 

@@ -16,12 +16,10 @@ ghost use Rattle.rules.specs.Outcome.{good};
 ghost use Rattle.purge.specs.Purge.{count_set, purge};
 ghost use Rattle.purge.specs.Parts.{WholeRun, Standing, KeptUnless, Slid, count_at, Headed, headed, loses_by, KeptAt, KeptAll};
 
-use compose::{Written, put_header, record_of};
-use message::{
-    Checked, Header, Message, MessageRead, Package, PackageRead, check, message_at, package_at,
-    package_time,
-};
-use sheet::{TableAnswer, near_grants, near_rows, read_table, source_of};
+use compose::{put_header, record_of};
+use message::{Header, Message, Package, check, message_at, package_at, package_time};
+use refusal::Refusal;
+use sheet::{near_grants, near_rows, read_table, source_of};
 use wire::{byte_at, put_byte, put_part, put_word, put_zeros};
 
 // Moves 64 bytes through a local array: all of them are read before the first is stored, so that they are moved at once.
@@ -54,10 +52,8 @@ fn move_bytes(s: &mut [u8], to: usize, from: usize, n: usize)
     requires { (to ≤ from) × (from + n ≤ length s.old) }
     ensures { s.new ≡ sets s.old to (part from (from + n) s.old) }
 {
-    let mut i = 0;
-    while i < n {
+    for i in 0..n {
         s[to + i] = s[from + i];
-        i += 1;
     }
 }
 
@@ -114,9 +110,9 @@ fn keep_packages(
     from: usize,
     to: usize,
     table: &[u64],
-    near: &mut [u64],
+    near: &mut [u64; 128],
 ) -> Left
-    requires { (to ≤ from) × (from ≤ length s.old) × (length s.old ≤ 65536) × (length table.now ≤ 224) × (length near.old ≡ 128) }
+    requires { (to ≤ from) × (from ≤ length s.old) × (length s.old ≤ 65536) × (length table.now ≤ 224) }
     ensures { Slid (rows_in table.now) (message_by h) from to s.old s.new result }
 {
     let many = near_rows(table, source_of(h), near);
@@ -126,8 +122,7 @@ fn keep_packages(
     };
     let mut at = from;
     while at < s.len() {
-        let found = package_at(s, at);
-        let PackageRead::Package(p) = found else {
+        let Ok(Some(p)) = package_at(s, at) else {
             return left;
         };
         let next = p.next;
@@ -220,9 +215,9 @@ fn keep_message(
     m: Message,
     to: usize,
     table: &[u64],
-    near: &mut [u64],
+    near: &mut [u64; 128],
 ) -> usize
-    requires { (to ≤ at) × (length s.old ≤ 65536) × (good (spot_of_message m) ≡ message_at s.old at) × (length table.now ≤ 224) × (length near.old ≡ 128) }
+    requires { (to ≤ at) × (length s.old ≤ 65536) × (good (spot_of_message m) ≡ message_at s.old at) × (length table.now ≤ 224) }
     ensures { KeptAt (rows_in table.now) at m.next to s.old s.new result }
 {
     let h = m.header;
@@ -247,8 +242,7 @@ fn keep_messages(s: &mut [u8], table: &[u64]) -> usize
     let mut to = 0;
     let mut at = 0;
     while at < s.len() {
-        let found = message_at(s, at);
-        let MessageRead::Message(m) = found else {
+        let Ok(m) = message_at(s, at) else {
             return to;
         };
         let next = m.next;
@@ -258,25 +252,15 @@ fn keep_messages(s: &mut [u8], table: &[u64]) -> usize
     to
 }
 
-// Takes every package that the sheet grants out of the recording that fills the buffer. The bytes behind those in use become zero.
-pub fn purge(buffer: &mut [u8], sheet: &[u8]) -> Written
+// Takes every package that the sheet grants out of the recording that fills the buffer, and says how many bytes are in use. Those behind them become zero.
+pub fn purge(buffer: &mut [u8], sheet: &[u8]) -> Result<usize, Refusal>
     ensures { told result buffer.new ≡ purge buffer.old sheet.now }
 {
     let mut table = [0u64; 224];
-    let read = read_table(sheet, &mut table);
-    match read {
-        TableAnswer::Refused(f) => Written::Refused(f),
-        TableAnswer::Rows(n) => {
-            let checked = check(buffer);
-            match checked {
-                Checked::Refused(f) => Written::Refused(f),
-                Checked::Passed { .. } => {
-                    let end = 7 * n;
-                    let bytes = keep_messages(buffer, &table[..end]);
-                    put_zeros(buffer, bytes, buffer.len() - bytes);
-                    Written::Done { bytes }
-                }
-            }
-        }
-    }
+    let rows = read_table(sheet, &mut table)?;
+    check(buffer)?;
+    let end = 7 * rows;
+    let bytes = keep_messages(buffer, &table[..end]);
+    put_zeros(buffer, bytes, buffer.len() - bytes);
+    Ok(bytes)
 }

@@ -1,28 +1,29 @@
 -- Each claim, proved by the laws; and that a promise allows one answer alone.
 use Prim.Native.Nat.{ℕ}
-use mathlib.Core.Path.{◌≡◌, refl, ap, sym}
+use mathlib.Core.Path.{◌≡◌, refl}
 use mathlib.Core.List.{List}
 use borrow.Author.Tests.{lt-ltb}
 use lib.ListN.{length}
 use Rattle.rules.specs.Outcome.{Outcome, good, bad, ◌>>=◌}
 use Rattle.rules.specs.Buffer.{fitted}
 use Rattle.rules.specs.Claims.{TellsApart}
-use Rattle.rules.proofs.Outcomes.{halt, good_inj, good≢bad, none≢some}
+use Rattle.rules.proofs.Outcomes.{halt}
 use Rattle.rules.proofs.Kept.{careful_stored, writes, roomless}
-use Rattle.refusal.proofs.Numbers.{refused_injective}
+use Rattle.std.specs.Prelude as std
+use Rattle.refusal.specs.Numbers.{option_by}
+use Rattle.refusal.proofs.Numbers.{same_answer, option_back, option-back}
 use Rattle.radio.specs.Radio.{radio, stored_at, tlv_put, tlv_writer, run_written, radio_writer}
 use Rattle.radio.specs.Claims.{TlvWrittenRead, TlvReadWritten, RadioWrittenRead, RadioReadWritten, RadioCleanExactly, StepsShowAll, RadioLarge, RadioPlace, RunPlace, RecordsPut, RecordsByRun, RunWrittenRead, PartsWritten, WriterWrites, RoomRefused, BuffersKept, RowExact, RowApart}
 use Rattle.radio.specs.Told.{told_radio, told_tlv}
 use Rattle.radio.specs.Example.{Example}
 use Rattle.radio.specs.declared.Head.{Head}
 use Rattle.radio.specs.declared.Tlv.{Tlv}
-use Rattle.radio.specs.declared.RadioRead.TheVariants as radioReads
-use Rattle.radio.specs.declared.TlvRead.TheVariants as tlvReads
+use Rattle.radio.specs.declared.RadioMessage.{RadioMessage}
+use Rattle.radio.specs.declared.TlvFound.{TlvFound}
 use Rattle.radio.proofs.Rows as rows
 use Rattle.radio.proofs.Tlvs as tlvs
 use Rattle.radio.proofs.Messages as messages
 use Rattle.radio.proofs.Places as places
-use Rattle.radio.proofs.Places.{shown_inj}
 use Rattle.radio.proofs.Examples.{worked_out}
 
 pub tlv-written-read : TlvWrittenRead
@@ -95,19 +96,25 @@ example = worked_out
 
 -- two answers that are told alike are the same
 
+message_back : Head × ℕ → RadioMessage
+message_back r = record { head = r.0; tlvs = r.1 }
+
+message-back : (m : RadioMessage) → message_back (m.head, m.tlvs) ≡ m
+unfolding message_back
+message-back m = refl
+
 pub same_radio : TellsApart told_radio
-same_radio (radioReads.Message h m) (radioReads.Message g n) e = ap (λ (r : Head × ℕ). radioReads.Message r.0 r.1) (good_inj e)
-same_radio (radioReads.Message h m) (radioReads.Refused r) e = absurd (good≢bad (sym e))
-same_radio (radioReads.Refused r) (radioReads.Message h m) e = absurd (good≢bad e)
-same_radio (radioReads.Refused r) (radioReads.Refused q) e = ap radioReads.Refused (refused_injective r q e)
+same_radio = same_answer (λ (m : RadioMessage). (m.head, m.tlvs)) message_back message-back
+
+found_back : Tlv × ℕ → TlvFound
+found_back r = record { tlv = r.0; next = r.1 }
+
+found-back : (f : TlvFound) → found_back (f.tlv, f.next) ≡ f
+unfolding found_back
+found-back f = refl
+
+abbrev shown : TlvFound → Tlv × ℕ
+shown f = (f.tlv, f.next)
 
 pub same_tlv : TellsApart told_tlv
-same_tlv (tlvReads.Tlv t m) (tlvReads.Tlv u n) e = ap (λ (r : Tlv × ℕ). tlvReads.Tlv r.0 r.1) (shown_inj e)
-same_tlv (tlvReads.Tlv t m) tlvReads.End e = absurd (none≢some (sym (good_inj e)))
-same_tlv (tlvReads.Tlv t m) (tlvReads.Refused r) e = absurd (good≢bad (sym e))
-same_tlv tlvReads.End (tlvReads.Tlv u n) e = absurd (none≢some (good_inj e))
-same_tlv tlvReads.End tlvReads.End e = refl
-same_tlv tlvReads.End (tlvReads.Refused r) e = absurd (good≢bad (sym e))
-same_tlv (tlvReads.Refused r) (tlvReads.Tlv t m) e = absurd (good≢bad e)
-same_tlv (tlvReads.Refused r) tlvReads.End e = absurd (good≢bad e)
-same_tlv (tlvReads.Refused r) (tlvReads.Refused q) e = ap tlvReads.Refused (refused_injective r q e)
+same_tlv = same_answer (λ (o : std.Option TlvFound). option_by shown o) (option_back found_back) (option-back shown found_back found-back)

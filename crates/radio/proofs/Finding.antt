@@ -1,6 +1,6 @@
 -- What the code that reads a TLV finds: a law for each answer, over plain numbers and lists.
 use Prim.Native.Nat.{ℕ, zero, suc, ◌+◌, ◌-◌, ◌≤◌, ◌<◌}
-use mathlib.Core.Path.{◌≡◌, refl, sym, ap, ◌∙◌}
+use mathlib.Core.Path.{◌≡◌, refl, sym, ap}
 use mathlib.Core.Bool.{true, false}
 use mathlib.Core.List.{List}
 use mathlib.Core.Option.{none, some}
@@ -14,21 +14,15 @@ use mir.Val.{to_z, of_z, SFits}
 use mir.Facts.{to_z-of_z}
 use Rattle.rules.specs.Outcome.{good, bad, LARGE}
 use Rattle.refusal.specs.Numbers.{RADIO}
-use Rattle.rules.specs.Bytes.{at}
 use Rattle.rules.proofs.Outcomes.{pass, halt, step, stop}
 use Rattle.rules.proofs.Loops.{rest}
 use Rattle.radio.specs.Quotient.{quotient}
 use Rattle.radio.specs.Row.{level_of, rate_of}
-use Rattle.radio.specs.Tlv.{signed, tlv_size, typed, opportunity_of, heartbeat_of, metric_of, report_of, fixed_bytes, tlv_fits, keeps_rules, tlv}
+use Rattle.radio.specs.Tlv.{signed, tlv_size, typed, keeps_rules, tlv}
 use Rattle.radio.specs.Radio.{tlv_at}
 use Rattle.radio.proofs.Tlvs.{signed-fits}
-use Rattle.radio.specs.declared.TxOp as opportunity
-use Rattle.radio.specs.declared.Heartbeat as heartbeat
-use Rattle.radio.specs.declared.LinkMetric as metric
-use Rattle.radio.specs.declared.QueueReport as report
 use Rattle.radio.specs.declared.Reading.TheVariants.{Missing, Level, Rate}
 use Rattle.radio.specs.declared.Tlv.{Tlv}
-use Rattle.radio.specs.declared.Tlv.TheVariants.{TxOp, Heartbeat, LinkMetric, QueueReport}
 
 -- ---- readings: 128 is how -128 stands in a byte
 
@@ -50,53 +44,6 @@ pub rate_there : (n : ℕ) → (n ≡ 0 → ⊥) → (x : Float) → x ≡ quoti
 unfolding rate_of
 rate_there zero d x e = absurd (d refl)
 rate_there (suc n) d x e = ap Rate e
-
--- ---- the type
-
-module _ (p : ℕ) (s : List ℕ) (k : ℕ) (e : k ≡ at s 0) where
-  pub is_one : k ≡ 1 → (t : opportunity.TxOp) → t ≡ opportunity_of s → good (TxOp t) ≡ typed p s
-  unfolding typed
-  is_one a t f = rw (eq-eqb (at s 0) 1 (sym e ∙ a), typed, f)
-
-  module _ (n1 : k ≡ 1 → ⊥) where
-    pub is_five : k ≡ 5 → (t : heartbeat.Heartbeat) → t ≡ heartbeat_of s → good (Heartbeat t) ≡ typed p s
-    unfolding typed
-    is_five a t f = rw (ne_eqb (at s 0) 1 (λ q. n1 (e ∙ q)), eq-eqb (at s 0) 5 (sym e ∙ a), typed, f)
-
-    module _ (n5 : k ≡ 5 → ⊥) where
-      pub is-six : k ≡ 6 → (t : metric.LinkMetric) → t ≡ metric_of s → good (LinkMetric t) ≡ typed p s
-      unfolding typed
-      is-six a t f = rw (ne_eqb (at s 0) 1 (λ q. n1 (e ∙ q)), ne_eqb (at s 0) 5 (λ q. n5 (e ∙ q)), eq-eqb (at s 0) 6 (sym e ∙ a), typed, f)
-
-      module _ (n6 : k ≡ 6 → ⊥) where
-        pub is_ten : k ≡ 10 → (t : report.QueueReport) → t ≡ report_of s → good (QueueReport t) ≡ typed p s
-        unfolding typed
-        is_ten a t f = rw (ne_eqb (at s 0) 1 (λ q. n1 (e ∙ q)), ne_eqb (at s 0) 5 (λ q. n5 (e ∙ q)), ne_eqb (at s 0) 6 (λ q. n6 (e ∙ q)), eq-eqb (at s 0) 10 (sym e ∙ a), typed, f)
-
-        pub is-other : (k ≡ 10 → ⊥) → bad RADIO p ≡ typed p s
-        unfolding typed
-        is-other n10 = rw (ne_eqb (at s 0) 1 (λ q. n1 (e ∙ q)), ne_eqb (at s 0) 5 (λ q. n5 (e ∙ q)), ne_eqb (at s 0) 6 (λ q. n6 (e ∙ q)), ne_eqb (at s 0) 10 (λ q. n10 (e ∙ q)), typed)
-
--- ---- the rules of a TLV
-
-module _ (t : Tlv) (s : List ℕ) (n k : ℕ) (en : n ≡ tlv_size t) (ek : k ≡ at s 1) where
-  pub wrong_size : (k ≡ n → ⊥) → false ≡ keeps_rules t s
-  unfolding keeps_rules
-  wrong_size d = rw (ne_eqb (at s 1) (tlv_size t) (λ q. d (ek ∙ q ∙ sym en)), keeps_rules)
-
-  module _ (a : k ≡ n) where
-    pub cut_off : length s < n → false ≡ keeps_rules t s
-    unfolding keeps_rules
-    cut_off l = rw (eq-eqb (at s 1) (tlv_size t) (sym ek ∙ a ∙ en), lt-leb (tlv_size t) (length s) (omega arith), keeps_rules)
-
-    module _ (l : n ≤ length s) where
-      pub not_fixed : fixed_bytes t s ≡ false → false ≡ keeps_rules t s
-      unfolding keeps_rules
-      not_fixed f = rw (eq-eqb (at s 1) (tlv_size t) (sym ek ∙ a ∙ en), le-leb (tlv_size t) (length s) (omega arith), f, keeps_rules)
-
-      pub in_ranges : fixed_bytes t s ≡ true → tlv_fits t ≡ keeps_rules t s
-      unfolding keeps_rules
-      in_ranges f = rw (eq-eqb (at s 1) (tlv_size t) (sym ek ∙ a ∙ en), le-leb (tlv_size t) (length s) (omega arith), f, keeps_rules)
 
 -- ---- a TLV
 

@@ -19,7 +19,7 @@ use Rattle.compose.proofs.Stores.{sets-part}
 use Rattle.compose.proofs.Answered.{answer}
 use Rattle.radio.specs.Tlv.{unsigned, tlv_size, tlv_bytes, tlv_fits, tlv}
 use Rattle.radio.specs.Radio.{head_of, checked_head, radio, radio_read, run_of, head_bytes, radio_bytes, tlv_put, stored_at, tlv_writer, run_written, radio_writer}
-use Rattle.radio.specs.Told.{tlv_count, Here, Moved, Checked, run_outcome, report_front, low_levels, high_levels}
+use Rattle.radio.specs.Told.{tlv_count, Here, Moved, Checked, run_outcome, report_front, four_levels}
 use Rattle.radio.specs.declared.Head.{Head}
 use Rattle.radio.specs.declared.TxOp as opportunity
 use Rattle.radio.specs.declared.Heartbeat as heartbeat
@@ -49,27 +49,11 @@ pub metric_stored : (b : List ℕ) (m : metric.LinkMetric) {b₁ b₂ b₃ b₄ 
 unfolding tlv_bytes
 metric_stored b m es ex ey a₁ a₂ a₃ a₄ a₅ a₆ = a₆ ∙ rw (a₅, a₄, a₃, a₂, a₁, es, ex, ey)
 
-pub front-stored : (b : List ℕ) (q : report.QueueReport) {b₁ b₂ b₃ b₄ : List ℕ} {s : ℕ} → s ≡ q.seconds
-    → b₁ ≡ sets b 0 (put16 2587 []) → b₂ ≡ sets b₁ 2 (put32 (s * 16777216 + q.micros) []) → b₃ ≡ sets b₂ 6 (put32 q.mission []) → b₄ ≡ sets b₃ 10 (0 ∷ [])
-    → b₄ ≡ sets b 0 (report_front q)
-front-stored b q es a₁ a₂ a₃ a₄ = a₄ ∙ rw (a₃, a₂, a₁, es)
-
-pub low-stored : (b : List ℕ) (q : report.QueueReport) {b₁ b₂ b₃ b₄ : List ℕ} → b₁ ≡ sets b 11 (put16 q.level0 []) → b₂ ≡ sets b₁ 13 (put16 q.level1 [])
-    → b₃ ≡ sets b₂ 15 (put16 q.level2 []) → b₄ ≡ sets b₃ 17 (put16 q.level3 []) → b₄ ≡ sets b 11 (low_levels q)
-low-stored b q a₁ a₂ a₃ a₄ = a₄ ∙ rw (a₃, a₂, a₁)
-
-pub high_stored : (b : List ℕ) (q : report.QueueReport) {b₁ b₂ b₃ b₄ : List ℕ} → b₁ ≡ sets b 19 (put16 q.level4 []) → b₂ ≡ sets b₁ 21 (put16 q.level5 [])
-    → b₃ ≡ sets b₂ 23 (put16 q.level6 []) → b₄ ≡ sets b₃ 25 (put16 q.level7 []) → b₄ ≡ sets b 19 (high_levels q)
-high_stored b q a₁ a₂ a₃ a₄ = a₄ ∙ rw (a₃, a₂, a₁)
-
-pub report-stored : (b : List ℕ) (q : report.QueueReport) {b₁ b₂ b₃ : List ℕ} → b₁ ≡ sets b 0 (report_front q) → b₂ ≡ sets b₁ 11 (low_levels q) → b₃ ≡ sets b₂ 19 (high_levels q)
+pub report-stored : (b : List ℕ) (q : report.QueueReport) {b₁ b₂ b₃ : List ℕ} → b₁ ≡ sets b 0 (report_front q) → b₂ ≡ sets b₁ 11 (four_levels q.level0 q.level1 q.level2 q.level3)
+    → b₃ ≡ sets b₂ 19 (four_levels q.level4 q.level5 q.level6 q.level7)
     → b₃ ≡ sets b 0 (tlv_bytes (QueueReport q))
 unfolding tlv_bytes
 report-stored b q a₁ a₂ a₃ = a₃ ∙ rw (a₂, a₁)
-
-pub head-stored : (b : List ℕ) (h : Head) (n : ℕ) {b₁ b₂ b₃ b₄ : List ℕ} {k : ℕ} → k ≡ 8 + n → b₁ ≡ sets b 0 (put16 k []) → b₂ ≡ sets b₁ 2 (put16 h.destination [])
-    → b₃ ≡ sets b₂ 4 (put16 h.source []) → b₄ ≡ sets b₃ 6 (put32 h.sequence []) → b₄ ≡ sets b 0 (head_bytes h n [])
-head-stored b h n e a₁ a₂ a₃ a₄ = a₄ ∙ rw (a₃, a₂, a₁, e)
 
 -- ---- a record put at a place
 
@@ -224,11 +208,6 @@ module _ (run : List ℕ) (i : ℕ) where
       let (w, q) = tlv-kept (10 + i) (drop i run) t (tlv_size t) r in
       (r, w.ranges, omega (arith, w.whole, length-drop i run))
 
-  pub not_here : Here run i → {n q : ℕ} → bad n q ≡ tlv (10 + i) from → ⊥
-  not_here h {n} {q} e =
-      let r : bad n q ≡ tlv (10 + i) (drop i run) = rw rest at e in
-      good≢bad (r ∙ h.reads)
-
   pub moved : (b ys : List ℕ) (t : Tlv) (n : ℕ) → n ≡ tlv_size t → good (t, tlv_size t) ≡ tlv (10 + i) from → ys ≡ sets (take (length b - i) (drop i b)) 0 (tlv_bytes t)
       → Moved b run i (put_mid i (length b - i) b ys) (i + n)
   moved b ys t n z e s = record { shown = t; reads = (shown-here t e).0; end = ap (λ (k : ℕ). i + k) (sym z); bytes = sets-part b ys (tlv_bytes t) i s }
@@ -270,9 +249,6 @@ module _ (run b : List ℕ) where
       moves =
           let (k, q) = tlv-kept (10 + i) (drop i run) m.shown (tlv_size m.shown) m.reads in
           (omega (arith, least m.shown), omega (arith, k.whole, length-drop i run))
-
-      pub storing_less : (i < e) × (e ≤ length run)
-      storing_less = (omega (arith, m.end, moves.0), omega (arith, m.end, moves.1))
 
       to_end : Storing run b out' (i + tlv_size m.shown)
       to_end = record {

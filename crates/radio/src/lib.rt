@@ -4,14 +4,14 @@
 ghost use Rattle.std.specs.Prelude.{◌≡◌, true, ◌&&◌, [], leb, ◌+◌, ◌*◌, ◌/◌, ◌%◌, ◌≤◌, ◌<◌, pos, length};
 ghost use Rattle.std.proofs.lemmas.List.Edits.{sets};
 ghost use Rattle.compose.specs.Told.{told};
+ghost use Rattle.refusal.specs.Numbers.{outcome_of};
 ghost use Rattle.radio.specs.Quotient.{quotient};
 ghost use Rattle.radio.specs.Row.{level_of, rate_of, link_row};
 ghost use Rattle.radio.specs.Tlv as tlvs;
 ghost use Rattle.radio.specs.Radio as rule;
 ghost use Rattle.radio.specs.Told as spec;
 
-use compose::Written;
-use refusal::{Refusal, Why};
+use refusal::{Refusal, Why, refuse};
 
 // The numbers of a header beside its length.
 #[derive(Clone, Copy)]
@@ -91,50 +91,29 @@ pub struct LinkRow {
 
 // A message that passes, with the number of its TLVs.
 #[derive(Clone, Copy)]
-pub enum RadioRead {
-    Message { head: Head, tlvs: usize },
-    Refused(Refusal),
+pub struct RadioMessage {
+    pub head: Head,
+    pub tlvs: usize,
 }
 
-// What stands at a place of a message: a TLV, with the place behind it, the end, or none that keeps the rules.
+// A TLV, with the place behind it.
 #[derive(Clone, Copy)]
-pub enum TlvRead {
-    Tlv { tlv: Tlv, next: usize },
-    End,
-    Refused(Refusal),
-}
-
-// A TLV, or a refusal.
-#[derive(Clone, Copy)]
-enum Found {
-    Tlv(Tlv),
-    Refused(Refusal),
-}
-
-// A number, or a refusal.
-#[derive(Clone, Copy)]
-enum Count {
-    Number(usize),
-    Refused(Refusal),
+pub struct TlvFound {
+    pub tlv: Tlv,
+    pub next: usize,
 }
 
 // The signed number that a byte is, in two's complement, and the byte of a signed number.
 pub fn signed_of(b: u8) -> i8
     ensures { result ≡ tlvs.signed b }
 {
-    if b < 128 {
-        return b as i8;
-    }
-    -1 - ((255 - b) as i8)
+    b.cast_signed()
 }
 
 pub fn byte_of(z: i8) -> u8
     ensures { result ≡ tlvs.unsigned z }
 {
-    if z < 0 {
-        return 255 - ((-1 - z) as u8);
-    }
-    z as u8
+    z.cast_unsigned()
 }
 
 // A number of 250 kHz as MHz, a signed number as it is, and a number of 1/256.
@@ -190,18 +169,6 @@ pub fn row_of(m: LinkMetric) -> LinkRow
     }
 }
 
-fn wide8(x: u8) -> u32
-    ensures { (result ≡ x) × (result < 256) }
-{
-    x as u32
-}
-
-fn wide16(x: u16) -> usize
-    ensures { (result ≡ x) × (result < 65536) }
-{
-    x as usize
-}
-
 // The fields of a TLV of each type, at the start of s.
 fn opportunity_of(s: &[u8]) -> TxOp
     ensures { result ≡ tlvs.opportunity_of s.now }
@@ -210,7 +177,7 @@ fn opportunity_of(s: &[u8]) -> TxOp
     let id = wire::half_at(s, 5);
     let timeout = wire::byte_at(s, 7);
     let w = wire::word_at(s, 8);
-    let last = wide8(wire::byte_at(s, 12));
+    let last = u32::from(wire::byte_at(s, 12));
     TxOp {
         frequency,
         id,
@@ -282,37 +249,25 @@ fn report_of(s: &[u8]) -> QueueReport
     }
 }
 
-fn bad_tlv(place: usize) -> Found
-    ensures { result ≡ Found.Refused (record { why = Why.Radio; place = place }) }
-{
-    Found::Refused(Refusal {
-        why: Why::Radio,
-        place,
-    })
-}
-
 // The TLV at the start of s, which stands at place p, by its type alone.
-fn typed(s: &[u8], p: usize) -> Found
-    ensures { spec.told_typed result ≡ tlvs.typed p s.now }
+#[tactic(auto, unfolding(crate::specs::Tlv::typed))]
+fn typed(s: &[u8], p: usize) -> Result<Tlv, Refusal>
+    ensures { outcome_of result ≡ tlvs.typed p s.now }
 {
     let k = wire::byte_at(s, 0);
     if k == 1 {
-        let t = opportunity_of(s);
-        return Found::Tlv(Tlv::TxOp(t));
+        return Ok(Tlv::TxOp(opportunity_of(s)));
     }
     if k == 5 {
-        let t = heartbeat_of(s);
-        return Found::Tlv(Tlv::Heartbeat(t));
+        return Ok(Tlv::Heartbeat(heartbeat_of(s)));
     }
     if k == 6 {
-        let t = metric_of(s);
-        return Found::Tlv(Tlv::LinkMetric(t));
+        return Ok(Tlv::LinkMetric(metric_of(s)));
     }
     if k == 10 {
-        let t = report_of(s);
-        return Found::Tlv(Tlv::QueueReport(t));
+        return Ok(Tlv::QueueReport(report_of(s)));
     }
-    bad_tlv(p)
+    refuse(Why::Radio, p)
 }
 
 fn size_of(t: Tlv) -> usize
@@ -330,18 +285,14 @@ fn size_of(t: Tlv) -> usize
 fn in_second(a: u32, b: u32) -> bool
     ensures { result ≡ (leb a 999999 && leb b 999999) }
 {
-    if a <= 999999 { b <= 999999 } else { false }
+    a <= 999999 && b <= 999999
 }
 
 // A time within 64 seconds.
 fn in_minute(seconds: u8, micros: u32) -> bool
     ensures { result ≡ (leb seconds 63 && leb micros 999999) }
 {
-    if seconds <= 63 {
-        micros <= 999999
-    } else {
-        false
-    }
+    seconds <= 63 && micros <= 999999
 }
 
 // The fields of a TLV are within their ranges.
@@ -368,79 +319,53 @@ fn fixed(t: Tlv, s: &[u8]) -> bool
     }
 }
 
+#[tactic(auto, unfolding(crate::specs::Tlv::keeps_rules))]
 fn keeps(t: Tlv, s: &[u8]) -> bool
     ensures { result ≡ tlvs.keeps_rules t s.now }
 {
     let n = size_of(t);
-    let k = wire::byte_at(s, 1) as usize;
-    if k != n {
-        return false;
-    }
-    if s.len() < n {
-        return false;
-    }
-    if !fixed(t, s) {
-        return false;
-    }
-    fits(t)
+    usize::from(wire::byte_at(s, 1)) == n && n <= s.len() && fixed(t, s) && fits(t)
 }
 
 // The TLV at the start of s, which stands at place p.
-fn tlv_here(s: &[u8], p: usize) -> Found
+fn tlv_here(s: &[u8], p: usize) -> Result<Tlv, Refusal>
     ensures { spec.told_found result ≡ tlvs.tlv p s.now }
 {
-    match typed(s, p) {
-        Found::Refused(x) => Found::Refused(x),
-        Found::Tlv(t) => {
-            if !keeps(t, s) {
-                return bad_tlv(p);
-            }
-            Found::Tlv(t)
-        }
+    let t = typed(s, p)?;
+    if !keeps(t, s) {
+        return refuse(Why::Radio, p);
     }
+    Ok(t)
 }
 
-// What stands at place `at` of a message; its first TLV stands at 10.
-pub fn tlv_at(s: &[u8], at: usize) -> TlvRead
+// What stands at place `at` of a message: a TLV, or none at its end. The first one stands at 10.
+pub fn tlv_at(s: &[u8], at: usize) -> Result<Option<TlvFound>, Refusal>
     ensures { spec.told_tlv result ≡ rule.tlv_at s.now at }
 {
     if 65536 < s.len() {
-        return TlvRead::Refused(Refusal {
-            why: Why::Large,
-            place: 65536,
-        });
+        return refuse(Why::Large, 65536);
     }
     if s.len() <= at {
-        return TlvRead::End;
+        return Ok(None);
     }
-    match tlv_here(&s[at..], at) {
-        Found::Refused(x) => TlvRead::Refused(x),
-        Found::Tlv(t) => {
-            let next = at + size_of(t);
-            TlvRead::Tlv { tlv: t, next }
-        }
-    }
+    let tlv = tlv_here(&s[at..], at)?;
+    let next = at + size_of(tlv);
+    Ok(Some(TlvFound { tlv, next }))
 }
 
 // How many TLVs a run holds, which stands at place 10 of a message.
-fn count_tlvs(run: &[u8]) -> Count
+fn count_tlvs(run: &[u8]) -> Result<usize, Refusal>
     requires { length run.now ≤ 65536 }
-    ensures { spec.told_count result ≡ spec.tlv_count run.now }
+    ensures { outcome_of result ≡ spec.tlv_count run.now }
 {
     let mut i = 0;
     let mut n = 0;
     while i < run.len() {
-        match tlv_here(&run[i..], 10 + i) {
-            Found::Refused(x) => {
-                return Count::Refused(x);
-            }
-            Found::Tlv(t) => {
-                i += size_of(t);
-                n += 1;
-            }
-        }
+        let t = tlv_here(&run[i..], 10 + i)?;
+        i += size_of(t);
+        n += 1;
     }
-    Count::Number(n)
+    Ok(n)
 }
 
 fn head_of(s: &[u8]) -> Head
@@ -456,41 +381,25 @@ fn head_of(s: &[u8]) -> Head
     }
 }
 
-fn unread(why: Why, place: usize) -> RadioRead
-    ensures { result ≡ RadioRead.Refused (record { why = why; place = place }) }
-{
-    RadioRead::Refused(Refusal { why, place })
-}
-
 // Reads the message that is the whole of s.
-pub fn read(s: &[u8]) -> RadioRead
+pub fn read(s: &[u8]) -> Result<RadioMessage, Refusal>
     ensures { spec.told_radio result ≡ rule.radio_read s.now }
 {
     if 65536 < s.len() {
-        return unread(Why::Large, 65536);
+        return refuse(Why::Large, 65536);
     }
     if s.len() < 10 {
-        return unread(Why::Radio, 0);
+        return refuse(Why::Radio, 0);
     }
-    if 2 + wide16(wire::half_at(s, 0)) != s.len() {
-        return unread(Why::Radio, 0);
+    if 2 + usize::from(wire::half_at(s, 0)) != s.len() {
+        return refuse(Why::Radio, 0);
     }
     if s.len() == 10 {
-        return unread(Why::Radio, 0);
+        return refuse(Why::Radio, 0);
     }
-    match count_tlvs(&s[10..]) {
-        Count::Refused(x) => RadioRead::Refused(x),
-        Count::Number(n) => {
-            let head = head_of(s);
-            RadioRead::Message { head, tlvs: n }
-        }
-    }
-}
-
-fn low_byte(x: u32) -> u8
-    ensures { result ≡ x % 256 }
-{
-    (x % 256) as u8
+    let tlvs = count_tlvs(&s[10..])?;
+    let head = head_of(s);
+    Ok(RadioMessage { head, tlvs })
 }
 
 // Stores a TLV of each type at the start of `out`.
@@ -504,7 +413,7 @@ fn put_opportunity(out: &mut [u8], t: TxOp)
     wire::put_half(out, 5, t.id);
     wire::put_byte(out, 7, t.timeout);
     wire::put_word(out, 8, t.start * 4096 + t.stop / 256);
-    wire::put_byte(out, 12, low_byte(t.stop));
+    wire::put_byte(out, 12, (t.stop % 256) as u8);
 }
 
 fn put_heartbeat(out: &mut [u8], t: Heartbeat)
@@ -519,7 +428,7 @@ fn put_metric(out: &mut [u8], t: LinkMetric)
     ensures { out.new ≡ sets out.old 0 (tlvs.tlv_bytes (Tlv.LinkMetric t)) }
 {
     wire::put_half(out, 0, 1547);
-    wire::put_word(out, 2, wide8(t.seconds) * 1048576 + t.micros);
+    wire::put_word(out, 2, u32::from(t.seconds) * 1048576 + t.micros);
     wire::put_half(out, 6, t.frequency);
     wire::put_byte(out, 8, byte_of(t.rssi));
     wire::put_byte(out, 9, byte_of(t.cinr));
@@ -532,27 +441,19 @@ fn put_report_front(out: &mut [u8], t: QueueReport)
     ensures { out.new ≡ sets out.old 0 (spec.report_front t) }
 {
     wire::put_half(out, 0, 2587);
-    wire::put_word(out, 2, wide8(t.seconds) * 16777216 + t.micros);
+    wire::put_word(out, 2, u32::from(t.seconds) * 16777216 + t.micros);
     wire::put_word(out, 6, t.mission);
     wire::put_byte(out, 10, 0);
 }
 
-fn put_low_levels(out: &mut [u8], t: QueueReport)
-    ensures { out.new ≡ sets out.old 11 (spec.low_levels t) }
+fn put_levels(out: &mut [u8], at: usize, a: u16, b: u16, c: u16, d: u16)
+    requires { at < 65536 }
+    ensures { out.new ≡ sets out.old at (spec.four_levels a b c d) }
 {
-    wire::put_half(out, 11, t.level0);
-    wire::put_half(out, 13, t.level1);
-    wire::put_half(out, 15, t.level2);
-    wire::put_half(out, 17, t.level3);
-}
-
-fn put_high_levels(out: &mut [u8], t: QueueReport)
-    ensures { out.new ≡ sets out.old 19 (spec.high_levels t) }
-{
-    wire::put_half(out, 19, t.level4);
-    wire::put_half(out, 21, t.level5);
-    wire::put_half(out, 23, t.level6);
-    wire::put_half(out, 25, t.level7);
+    wire::put_half(out, at, a);
+    wire::put_half(out, at + 2, b);
+    wire::put_half(out, at + 4, c);
+    wire::put_half(out, at + 6, d);
 }
 
 fn put_report(out: &mut [u8], t: QueueReport)
@@ -560,8 +461,8 @@ fn put_report(out: &mut [u8], t: QueueReport)
     ensures { out.new ≡ sets out.old 0 (tlvs.tlv_bytes (Tlv.QueueReport t)) }
 {
     put_report_front(out, t);
-    put_low_levels(out, t);
-    put_high_levels(out, t);
+    put_levels(out, 11, t.level0, t.level1, t.level2, t.level3);
+    put_levels(out, 19, t.level4, t.level5, t.level6, t.level7);
 }
 
 // Stores a TLV at the start of `out`.
@@ -577,32 +478,26 @@ fn put_first(out: &mut [u8], t: Tlv)
     }
 }
 
-fn unwritten(why: Why, place: usize) -> Written
-    ensures { result ≡ Written.Refused (record { why = why; place = place }) }
-{
-    Written::Refused(Refusal { why, place })
-}
-
 // Puts the TLV of a record at place `at` of `out`, for a run of TLVs that is made one by one.
-pub fn put_tlv(t: Tlv, out: &mut [u8], at: usize) -> Written
+pub fn put_tlv(t: Tlv, out: &mut [u8], at: usize) -> Result<usize, Refusal>
     ensures { told result out.new ≡ rule.tlv_writer t at out.old }
 {
     let n = size_of(t);
     if 65536 < at {
-        return unwritten(Why::Large, 65536);
+        return refuse(Why::Large, 65536);
     }
     let end = at + n;
     if 65536 < end {
-        return unwritten(Why::Large, 65536);
+        return refuse(Why::Large, 65536);
     }
     if !fits(t) {
-        return unwritten(Why::Radio, at);
+        return refuse(Why::Radio, at);
     }
     if out.len() < end {
-        return unwritten(Why::Room, end);
+        return refuse(Why::Room, end);
     }
     put_first(&mut out[at..], t);
-    Written::Done { bytes: n }
+    Ok(n)
 }
 
 // Stores the TLV at `at` of a run at `at` of `out`, and says where the next one begins.
@@ -612,8 +507,8 @@ fn put_next(out: &mut [u8], run: &[u8], at: usize) -> usize
     ensures { spec.Moved out.old run.now at out.new result }
 {
     match tlv_here(&run[at..], 10 + at) {
-        Found::Refused(_) => at,
-        Found::Tlv(t) => {
+        Err(_) => at,
+        Ok(t) => {
             put_first(&mut out[at..], t);
             at + size_of(t)
         }
@@ -632,51 +527,41 @@ fn put_run(out: &mut [u8], run: &[u8])
     }
 }
 
-// A number of at most 65,535 in 16 bits.
-fn narrow(n: usize) -> u16
-    requires { n < 65536 }
-    ensures { result ≡ n }
-{
-    n as u16
-}
-
 // Stores the header in front of n bytes of TLVs.
 fn put_head(out: &mut [u8], h: Head, n: usize)
     requires { 8 + n < 65536 }
     ensures { out.new ≡ sets out.old 0 (rule.head_bytes h n []) }
 {
-    wire::put_half(out, 0, narrow(8 + n));
+    wire::put_half(out, 0, (8 + n) as u16);
     wire::put_half(out, 2, h.destination);
     wire::put_half(out, 4, h.source);
     wire::put_word(out, 6, h.sequence);
 }
 
 // A message whose run was checked, written where there is room for it.
-fn finish(h: Head, run: &[u8], out: &mut [u8]) -> Written
+fn finish(h: Head, run: &[u8], out: &mut [u8]) -> Result<usize, Refusal>
     requires { spec.Checked run.now }
     ensures { told result out.new ≡ rule.radio_writer h run.now out.old }
 {
     let n = 10 + run.len();
     if out.len() < n {
-        return unwritten(Why::Room, n);
+        return refuse(Why::Room, n);
     }
     put_head(out, h, run.len());
     put_run(&mut out[10..], run);
-    Written::Done { bytes: n }
+    Ok(n)
 }
 
 // Writes a message from its header's numbers and a run of TLVs.
-pub fn write(h: Head, run: &[u8], out: &mut [u8]) -> Written
+pub fn write(h: Head, run: &[u8], out: &mut [u8]) -> Result<usize, Refusal>
     ensures { told result out.new ≡ rule.radio_writer h run.now out.old }
 {
     if 65526 < run.len() {
-        return unwritten(Why::Large, 65536);
+        return refuse(Why::Large, 65536);
     }
     if run.len() == 0 {
-        return unwritten(Why::Radio, 0);
+        return refuse(Why::Radio, 0);
     }
-    match count_tlvs(run) {
-        Count::Refused(x) => Written::Refused(x),
-        Count::Number(_) => finish(h, run, out),
-    }
+    count_tlvs(run)?;
+    finish(h, run, out)
 }

@@ -7,8 +7,8 @@ use Rattle.rules.specs.Copy as rules
 use Rattle.rules.proofs.Apart.{beside}
 use Rattle.refusal.proofs.Numbers.{number_positive, same_refusal}
 use Rattle.release.specs.declared.Totals.{Totals}
-use Rattle.release.specs.declared.Answer.{Answer}
-use Rattle.release.specs.declared.Answer.TheVariants as answer
+use Rattle.refusal.specs.declared.Refusal.{Refusal}
+use Rattle.std.specs.Prelude.{Result, Ok, Err}
 use Rattle.release.specs.Told.{numbers, told}
 
 totals_in : rules.Answer → Totals
@@ -16,10 +16,10 @@ totals_in a = record { bytes = a.bytes; messages = a.messages; packages = a.pack
 
 pub same_numbers : TellsApart numbers
 unfolding totals_in
-same_numbers (answer.Totals x) (answer.Totals y) e = ap (λ (a : rules.Answer). answer.Totals (totals_in a)) e
-same_numbers (answer.Totals x) (answer.Refused f) e = absurd (number_positive f.why (sym (ap (λ (a : rules.Answer). a.number) e)))
-same_numbers (answer.Refused f) (answer.Totals x) e = absurd (number_positive f.why (ap (λ (a : rules.Answer). a.number) e))
-same_numbers (answer.Refused f) (answer.Refused g) e = ap answer.Refused (same_refusal f g (ap (λ (a : rules.Answer). a.number) e) (ap (λ (a : rules.Answer). a.place) e))
+same_numbers (Ok x) (Ok y) e = ap (λ (a : rules.Answer). Ok (totals_in a)) e
+same_numbers (Ok x) (Err f) e = absurd (number_positive f.why (sym (ap (λ (a : rules.Answer). a.number) e)))
+same_numbers (Err f) (Ok x) e = absurd (number_positive f.why (ap (λ (a : rules.Answer). a.number) e))
+same_numbers (Err f) (Err g) e = ap Err (same_refusal f g (ap (λ (a : rules.Answer). a.number) e) (ap (λ (a : rules.Answer). a.place) e))
 
-pub tells_apart : TellsApart (λ (x : Answer × List ℕ). told x.0 x.1)
+pub tells_apart : TellsApart (λ (x : Result Totals Refusal × List ℕ). told x.0 x.1)
 tells_apart = beside numbers same_numbers

@@ -4,11 +4,9 @@
 
 ghost use Rattle.std.specs.Prelude.{◌≡◌};
 ghost use Rattle.rules.specs.Copy.{measurement, copy};
-ghost use Rattle.numbered.specs.Quota.{copy_of};
-ghost use Rattle.numbered.specs.Told.{report};
-ghost use Rattle.release.specs.Told.{numbers, told};
+ghost use Rattle.release.specs.Told.{totals_of, numbers, told};
 
-use numbered::{Answer as Reply, copy};
+use numbered::{Progress, copy};
 use refusal::Refusal;
 
 // What a copy takes, and what it reports.
@@ -19,28 +17,20 @@ pub struct Totals {
     pub packages: usize,
 }
 
-// What measuring and writing answer.
-#[derive(Clone, Copy)]
-pub enum Answer {
-    Totals(Totals),
-    Refused(Refusal),
-}
-
-fn answered(reply: Reply) -> Answer
-    ensures { numbers result ≡ copy_of (report reply) }
-{
-    match reply {
-        Reply::Done(p) => Answer::Totals(Totals {
+impl From<Progress> for Totals {
+    fn from(p: Progress) -> Totals
+        ensures { result ≡ totals_of p }
+    {
+        Totals {
             bytes: p.bytes,
             messages: p.messages,
             packages: p.packages,
-        }),
-        Reply::Refused(f) => Answer::Refused(f),
+        }
     }
 }
 
 // What the copy of a recording under a sheet takes: nothing is written.
-pub fn measure(recording: &[u8], sheet: &[u8]) -> Answer
+pub fn measure(recording: &[u8], sheet: &[u8]) -> Result<Totals, Refusal>
     ensures { numbers result ≡ measurement recording.now sheet.now }
 {
     let mut ids = [0u32; 1];
@@ -57,12 +47,11 @@ pub fn measure(recording: &[u8], sheet: &[u8]) -> Answer
         &mut nothing,
         true,
     );
-    let reply = done.answer;
-    answered(reply)
+    Ok(Totals::from(done.answer?))
 }
 
 // The copy of a recording under a sheet, into a buffer. No measurement is trusted: it is made anew.
-pub fn write(recording: &[u8], sheet: &[u8], out: &mut [u8]) -> Answer
+pub fn write(recording: &[u8], sheet: &[u8], out: &mut [u8]) -> Result<Totals, Refusal>
     ensures { told result out.new ≡ copy recording.now sheet.now out.old }
 {
     // A message with a package has 36 bytes at least, so a recording has at most 1,820 of them.
@@ -70,6 +59,5 @@ pub fn write(recording: &[u8], sheet: &[u8], out: &mut [u8]) -> Answer
     let mut next = [0u32; 1820];
     let all = recording.len();
     let done = copy(recording, sheet, all, &mut ids, &mut next, 0, out, false);
-    let reply = done.answer;
-    answered(reply)
+    Ok(Totals::from(done.answer?))
 }

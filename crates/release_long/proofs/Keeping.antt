@@ -10,10 +10,8 @@ use Rattle.numbered.specs.Numbering as rule
 use Rattle.numbered.specs.Quota.{Report}
 use Rattle.numbered.specs.Told.{report}
 use Rattle.numbered.specs.declared.Progress.{Progress}
-use Rattle.numbered.specs.declared.Answer.{Answer}
-use Rattle.numbered.specs.declared.Answer.TheVariants.{Done, Refused}
-use Rattle.refusal.specs.declared.Why.{Why}
 use Rattle.refusal.specs.declared.Refusal.{Refusal}
+use Rattle.std.specs.Prelude.{Result, Ok, Err, IfOk}
 use Rattle.step.specs.Step.{step, measured_step, output, consumed}
 use Rattle.step.specs.Claims.{StateFits, Run, rest, next}
 use Rattle.step.specs.Told.{state_in, told, told_measured}
@@ -21,13 +19,7 @@ use Rattle.step.specs.declared.State.{State}
 use Rattle.step.specs.declared.Stepped.{Stepped}
 use Rattle.step.proofs.Steps.{done, handles, fits_after}
 use Rattle.step.proofs.Claims.{measured-step}
-use Rattle.std.specs.declared.io.Error.{Error}
-use Rattle.release_long.specs.declared.Done as reached
-use Rattle.release_long.specs.declared.Turn.{Turn}
-use Rattle.release_long.specs.declared.Turn.TheVariants as turn
-use Rattle.release_long.specs.declared.Turned.{Turned}
-use Rattle.release_long.specs.declared.Pass.TheVariants as pass
-use Rattle.release_long.specs.Keeps.{fresh, Steps, Follows, Led, Onward, if_done, if_taken, stepped_on, turned_on, passed_on}
+use Rattle.release_long.specs.Keeps.{fresh, Steps, Follows, Led, Onward, stepped_on}
 
 -- ---- runs of steps
 
@@ -128,57 +120,29 @@ pub stepped_on_lem : (part sheet buffer after : List ℕ) (state : State) (r : S
 unfolding stepped_on
 stepped_on_lem part sheet buffer after state r writes w l e = go r.answer (state_in r.state) e
   where
-    go : (a : Answer) (end : rule.State) → ◌≡◌ {A = Report × rule.State × List ℕ} (report a, end, after) (step part sheet 65537 (state_in state) buffer) → if_done a (Onward sheet writes (state_in state) end (length part))
-    go (Done p) end q =
+    go : (a : Result Progress Refusal) (end : rule.State) → ◌≡◌ {A = Report × rule.State × List ℕ} (report a, end, after) (step part sheet 65537 (state_in state) buffer) → IfOk a (λ p. Onward sheet writes (state_in state) end (length part))
+    go (Ok p) end q =
         let number : (step part sheet 65537 (state_in state) buffer).0.number ≡ 0 = ap (λ (x : Report × rule.State × List ℕ). x.0.number) (sym q) in
         let same : (step part sheet 65537 (state_in state) buffer).1 ≡ end = ap (λ (x : Report × rule.State × List ℕ). x.1) (sym q) in
         subst (λ (s : rule.State). Onward sheet writes (state_in state) s (length part)) same
         (subst (λ (b : Bool). Onward sheet b (state_in state) (step part sheet 65537 (state_in state) buffer).1 (length part)) (sym w) (written part sheet buffer (state_in state) l number))
-    go (Refused f) end q = tt
+    go (Err f) end q = tt
 
 pub measured-on : (part sheet : List ℕ) (state : State) (r : Stepped) (writes : Bool) → writes ≡ false → Bytes part → length part ≤ 65536
     → told_measured r ≡ measured_step part sheet 65537 (state_in state) → stepped_on sheet writes part (state_in state) r
 unfolding stepped_on
 measured-on part sheet state r writes w bytes l e = go r.answer (state_in r.state) e
   where
-    go : (a : Answer) (end : rule.State) → ◌≡◌ {A = Report × rule.State} (report a, end) (measured_step part sheet 65537 (state_in state)) → if_done a (Onward sheet writes (state_in state) end (length part))
-    go (Done p) end q =
+    go : (a : Result Progress Refusal) (end : rule.State) → ◌≡◌ {A = Report × rule.State} (report a, end) (measured_step part sheet 65537 (state_in state)) → IfOk a (λ p. Onward sheet writes (state_in state) end (length part))
+    go (Ok p) end q =
         let number : (measured_step part sheet 65537 (state_in state)).0.number ≡ 0 = ap (λ (x : Report × rule.State). x.0.number) (sym q) in
         let same : (measured_step part sheet 65537 (state_in state)).1 ≡ end = ap (λ (x : Report × rule.State). x.1) (sym q) in
         subst (λ (s : rule.State). Onward sheet writes (state_in state) s (length part)) same
         (subst (λ (b : Bool). Onward sheet b (state_in state) (measured_step part sheet 65537 (state_in state)).1 (length part)) (sym w) (alone part sheet (state_in state) bytes l number))
-    go (Refused f) end q = tt
+    go (Err f) end q = tt
 
-pub taken-on : (sheet part : List ℕ) (writes : Bool) (before : rule.State) (r : Stepped) (p : Progress) → r.answer ≡ Done p → stepped_on sheet writes part before r
-    → turned_on sheet writes before (record { turn = turn.Taken (length part) p; state = r.state })
-unfolding stepped_on turned_on
-taken-on sheet part writes before r p e h = subst (λ (a : Answer). if_done a (Onward sheet writes before (state_in r.state) (length part))) e h
-
-pub refused-on : (sheet : List ℕ) (writes : Bool) (before : rule.State) (f : Refusal) (state : State) → turned_on sheet writes before (record { turn = turn.Refused f; state = state })
-unfolding turned_on
-refused-on sheet writes before f state = tt
-
-pub unread-on : (sheet : List ℕ) (writes : Bool) (before : rule.State) (why : Error) (state : State) → turned_on sheet writes before (record { turn = turn.Unread why; state = state })
-unfolding turned_on
-unread-on sheet writes before why state = tt
-
--- a turn that takes bytes
-pub taken : (sheet : List ℕ) (writes : Bool) (before : rule.State) (r : Turned) (n : ℕ) (p : Progress) → r.turn ≡ turn.Taken n p → turned_on sheet writes before r → Onward sheet writes before (state_in r.state) n
-unfolding turned_on
-taken sheet writes before r n p e h = subst (λ (t : Turn). if_taken t (Onward sheet writes before (state_in r.state))) e h
-
-pub whole-on : (sheet : List ℕ) (writes : Bool) (d : reached.Done) (kept : rule.State) → Led sheet writes fresh kept d.place → passed_on sheet (pass.Whole d)
-unfolding passed_on
-whole-on sheet writes d kept s = (s.end, s.steps)
-
-pub passed-refused : (sheet : List ℕ) (why : Why) (place : ℕ) → passed_on sheet (pass.Refused why place)
-unfolding passed_on
-passed-refused sheet why place = tt
-
-pub passed-unread : (sheet : List ℕ) (why : Error) → passed_on sheet (pass.Unread why)
-unfolding passed_on
-passed-unread sheet why = tt
-
-pub passed-unwritten : (sheet : List ℕ) (why : Error) → passed_on sheet (pass.Unwritten why)
-unfolding passed_on
-passed-unwritten sheet why = tt
+-- what a step takes where it is done
+pub stepped-onward : (sheet part : List ℕ) (writes : Bool) (before : rule.State) (r : Stepped) (p : Progress) → r.answer ≡ Ok p → stepped_on sheet writes part before r
+    → Onward sheet writes before (state_in r.state) (length part)
+unfolding stepped_on
+stepped-onward sheet part writes before r p e h = subst (λ (a : Result Progress Refusal). IfOk a (λ p. Onward sheet writes before (state_in r.state) (length part))) e h

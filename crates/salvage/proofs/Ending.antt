@@ -2,7 +2,6 @@
 use Prim.Native.Nat.{ℕ, ◌≤◌, ◌<◌}
 use mathlib.Core.Path.{◌≡◌, refl, sym, ap, subst, ◌∙◌}
 use mathlib.Core.List.{List}
-use native.Mathlib.Omega.{arith}
 use borrow.Author.Tests.{le-ltb}
 use lib.ListN.{length}
 use Rattle.rules.specs.Outcome.{Outcome, good, bad}
@@ -11,8 +10,8 @@ use Rattle.rules.specs.Reading.{MessageSpot, message_at}
 use Rattle.rules.proofs.Outcomes.{pass, stepped, good_inj, refused-only}
 use Rattle.message.specs.Answers.{cut_count}
 use Rattle.message.specs.Runs.{cut_of}
-use Rattle.salvage.specs.declared.Ends.{Ends}
-use Rattle.salvage.specs.declared.Ends.TheVariants.{At, Nowhere}
+use Rattle.std.specs.Prelude.{Some, None}
+use Rattle.std.proofs.lemmas.Option.{none-some, same_Some}
 use Rattle.salvage.specs.Told.{end_of}
 use Rattle.salvage.proofs.Pieces.{Lost}
 use Rattle.salvage.proofs.Surveying.{KeptAt, kept_at, lost-at}
@@ -33,26 +32,17 @@ module _ (q : List ℕ) (l : length q ≤ 65536) where
       let (cs, g, f) = stepped _ _ (sym counting ∙ sym e) in
       (cs, g, good_inj f)
 
--- what an answer says
-abbrev where_ends : Ends → ℕ
-where_ends (At n) = n
-where_ends Nowhere = 0
-
-abbrev one_at : Ends → ℕ
-one_at (At n) = 1
-one_at Nowhere = 0
-
 module _ (s : List ℕ) (p : ℕ) where
-  pub kept-end : (x : ℕ) → p < length s → At x ≡ end_of (message_at s p) → KeptAt s p x
+  pub kept-end : (x : ℕ) → p < length s → Some x ≡ end_of (message_at s p) → KeptAt s p x
   kept-end x l e = go (message_at s p) refl
     where
       go : (o : Outcome MessageSpot) → message_at s p ≡ o → KeptAt s p x
-      go (good d) f = subst (KeptAt s p) (sym (ap where_ends (e ∙ ap end_of f))) (kept_at s p d l (sym f))
-      go (bad a b) f = let z : ◌≡◌ {A = ℕ} 1 0 = ap one_at (e ∙ ap end_of f) in absurd (omega arith)
+      go (good d) f = subst (KeptAt s p) (sym (same_Some x d.next (e ∙ ap end_of f))) (kept_at s p d l (sym f))
+      go (bad a b) f = absurd (none-some x (sym (e ∙ ap end_of f)))
 
-  pub lost-end : length s ≤ 65536 → Nowhere ≡ end_of (message_at s p) → Lost s p
+  pub lost-end : length s ≤ 65536 → None ≡ end_of (message_at s p) → Lost s p
   lost-end l e = go (message_at s p) refl
     where
       go : (o : Outcome MessageSpot) → message_at s p ≡ o → Lost s p
-      go (good d) f = let z : ◌≡◌ {A = ℕ} 0 1 = ap one_at (e ∙ ap end_of f) in absurd (omega arith)
+      go (good d) f = absurd (none-some d.next (e ∙ ap end_of f))
       go (bad a b) f = lost-at s p l (sym f)

@@ -10,7 +10,7 @@ use borrow.Author.Tests.{le-ltb, lt-ltb, ltb-true, ltb-false, eqb-true, eqb-fals
 use lib.Dec.{ltb, eqb}
 use lib.ListN.{length, get_or, take, drop, set, replicate, length-append, length-drop, length-take}
 use lib.Seq.{get_or_at, set_at, set-set, length-take-le}
-use Rattle.rules.specs.Outcome.{Outcome, good, bad, LARGE}
+use Rattle.rules.specs.Outcome.{Outcome, good, bad}
 use Rattle.rules.specs.Items.{items}
 use Rattle.rules.specs.Reading.{MessageSpot, message_at}
 use Rattle.rules.proofs.Outcomes.{pass, halt, step, good≢bad}
@@ -18,12 +18,14 @@ use Rattle.rules.proofs.Loops.{Doing, doing_start, doing_next, doing_end, ◌++>
 use Rattle.rules.proofs.Growing.{map-replicate}
 use Rattle.rules.proofs.Spots.{of_record, spot-read}
 use Rattle.rules.proofs.Alone.{message-inside}
-use Rattle.refusal.specs.Numbers.{HOLES}
+use Rattle.std.specs.Prelude.{Ok, Err}
+use Rattle.refusal.specs.Numbers.{refused, HOLES}
+use Rattle.refusal.specs.declared.Refusal.{Refusal}
+use Rattle.refusal.specs.declared.Why.TheVariants.{Large, Holes}
 use Rattle.salvage.specs.Salvage as rule
 use Rattle.salvage.specs.Salvage.{Piece, piece_at, kept_text, kept_count, skipping, stretches_from, salvage_of, salvaged, answered}
-use Rattle.salvage.specs.Told.{stretch_in, no_stretch, stretch_of, numbers, surveyed, skips_end, slot_of, start_of}
+use Rattle.salvage.specs.Told.{stretch_in, no_stretch, stretch_of, report, surveyed, skips_end, slot_of, start_of}
 use Rattle.salvage.specs.declared.Stretch.{Stretch}
-use Rattle.salvage.specs.declared.SalvageAnswer.TheVariants.{Done}
 use Rattle.salvage.proofs.Pieces.{kept_piece, lost_piece, Lost, piece-kept, piece-lost, Reading, reads, fails, reading, Found, found}
 use Rattle.salvage.proofs.Skips.{first, goes_on, ends-here, ended, lost-byte}
 use Rattle.salvage.proofs.Growing.{kept_append, count-append, stretches-append, Stays, stays_on, Tail, empty, ends, Slot, slot}
@@ -54,6 +56,11 @@ skip_is : (s : List ℕ) (p : ℕ) → min 4 (length (drop p s)) ≡ min 4 (leng
 skip_is s p = rw length-drop
 
 -- ---- the survey
+
+-- what is reported of a refusal
+pub reported_bad : (x : Refusal) → report (Err x) ≡ (answered [] (refused x)).0
+unfolding answered
+reported_bad x = refl
 
 pub record Surveying (s : List ℕ) (stretches : List Stretch) (count last end bytes messages p : ℕ) : Type 0 where
   pub done : List Piece
@@ -203,16 +210,16 @@ module _ (s : List ℕ) (stretches : List Stretch) (count last end bytes message
         begins : (get_or (stretches_from [] (inv.done ++ (lost ∷ []))) 64 rule.no_stretch).start ≡ p
         begins = rw skipped (ap (λ (h : rule.Stretch). h.start) (get_or_at there.init _ [] rule.no_stretch 64 (there.many ∙ z))) ∙ fresh
 
-        pub survey_full : length s ≤ 65536 → (answered [] (bad HOLES p)).0 ≡ surveyed s
+        pub survey_full : length s ≤ 65536 → report (Err (record { why = Holes; place = p })) ≡ surveyed s
         unfolding salvaged salvage_of
         survey_full w =
             let a : 64 < length (stretches_from [] ((inv.done ++ (lost ∷ [])) ++ rest.pieces)) = omega (arith, stays.long, long) in
             let b : (get_or (stretches_from [] ((inv.done ++ (lost ∷ [])) ++ rest.pieces)) 64 rule.no_stretch).start ≡ p = stays.starts 64 (omega (arith, long)) ∙ begins in
             let f : salvaged s ≡ bad HOLES (get_or (stretches_from [] ((inv.done ++ (lost ∷ [])) ++ rest.pieces)) 64 rule.no_stretch).start =
             pass _ _ _ _ (le-ltb 65536 (length s) w) (step _ _ all (halt _ _ _ _ (lt-ltb 64 (length (stretches_from [] ((inv.done ++ (lost ∷ [])) ++ rest.pieces))) a))) in
-            sym (ap (λ (o : Outcome rule.Salvage). (answered [] o).0) (f ∙ ap (bad HOLES) b))
+            reported_bad (record { why = Holes; place = p }) ∙ sym (ap (λ (o : Outcome rule.Salvage). (answered [] o).0) (f ∙ ap (bad HOLES) b))
 
-  pub survey_ended : length s ≤ 65536 → length s ≤ p → numbers (Done bytes messages) (map stretch_in stretches) count ≡ surveyed s
+  pub survey_ended : length s ≤ 65536 → length s ≤ p → report (Ok (record { bytes = bytes; messages = messages; stretches = stretches; count = count })) ≡ surveyed s
   unfolding salvaged salvage_of answered
   survey_ended w l =
       let f : salvaged s ≡ good (record { text = kept_text inv.done; messages = kept_count inv.done; stretches = stretches_from [] inv.done }) =
@@ -261,6 +268,6 @@ module _ (s : List ℕ) (stretches : List Stretch) (count last end bytes message
       (to_the_end s stretches (slot_of count end p) (start_of count last end p) bytes messages h (length s) (p + min 4 (length s - p)) (omega arith)
       (survey_lost s stretches count last end bytes messages p inv l e (stretch_of (start_of count last end p) (p + min 4 (length s - p))) h refl))
 
-pub survey_large : (s : List ℕ) → 65536 < length s → (answered [] (bad LARGE 65536)).0 ≡ surveyed s
+pub survey_large : (s : List ℕ) → 65536 < length s → report (Err (record { why = Large; place = 65536 })) ≡ surveyed s
 unfolding salvaged
-survey_large s l = sym (ap (λ (o : Outcome rule.Salvage). (answered [] o).0) (halt _ _ _ _ (lt-ltb 65536 (length s) l)))
+survey_large s l = reported_bad (record { why = Large; place = 65536 }) ∙ sym (ap (λ (o : Outcome rule.Salvage). (answered [] o).0) (halt _ _ _ _ (lt-ltb 65536 (length s) l)))

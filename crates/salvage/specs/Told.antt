@@ -1,15 +1,12 @@
 -- What the code's answers stand for.
-use Rattle.std.specs.Prelude.{ℕ, zero, suc, ◌+◌, ◌-◌, ◌/◌, ◌≤◌, true, false, List, [], ◌∷◌, map, eqb, take}
+use Rattle.std.specs.Prelude.{ℕ, zero, suc, ◌+◌, ◌-◌, ◌/◌, ◌≤◌, true, false, List, [], ◌∷◌, map, eqb, take, replicate, Option, Some, None, Result, Ok, Err}
 use Rattle.rules.specs.Outcome.{Outcome, good, bad}
 use Rattle.rules.specs.Reading.{MessageSpot}
 use Rattle.refusal.specs.Numbers.{number_of}
+use Rattle.refusal.specs.declared.Refusal.{Refusal}
 use Rattle.salvage.specs.Salvage as rule
 use Rattle.salvage.specs.declared.Stretch.{Stretch}
-use Rattle.salvage.specs.declared.SalvageAnswer.{SalvageAnswer}
-use Rattle.salvage.specs.declared.SalvageAnswer.TheVariants.{Done, Refused}
 use Rattle.salvage.specs.declared.Salvaged.{Salvaged}
-use Rattle.salvage.specs.declared.Ends.{Ends}
-use Rattle.salvage.specs.declared.Ends.TheVariants.{At, Nowhere}
 
 -- a stretch of the code, and one that is all zero
 abbrev pub stretch_in : Stretch → rule.Stretch
@@ -23,20 +20,17 @@ abbrev pub stretch_of : ℕ → ℕ → Stretch
 stretch_of start end = record { start = start; size = end - start }
 
 -- where a message that passes ends
-abbrev pub end_of : Outcome MessageSpot → Ends
-end_of (good d) = At d.next
-end_of (bad n p) = Nowhere
+abbrev pub end_of : Outcome MessageSpot → Option ℕ
+end_of (good d) = Some d.next
+end_of (bad n p) = None
 
--- the numbers of an answer
-abbrev pub numbers : SalvageAnswer → List rule.Stretch → ℕ → rule.Answer
-numbers (Done b m) hs n = record { number = 0; place = 0; bytes = b; messages = m; stretches = hs; count = n }
-numbers (Refused x) hs n = record { number = number_of x.why; place = x.place; bytes = 0; messages = 0; stretches = hs; count = n }
-
-abbrev pub report : Salvaged → rule.Answer
-report r = numbers r.answer (map stretch_in r.stretches) r.count
+-- the numbers of an answer: on a refusal its number and place, and zeros
+abbrev pub report : Result Salvaged Refusal → rule.Answer
+report (Ok r) = record { number = 0; place = 0; bytes = r.bytes; messages = r.messages; stretches = map stretch_in r.stretches; count = r.count }
+report (Err x) = record { number = number_of x.why; place = x.place; bytes = 0; messages = 0; stretches = replicate rule.most_stretches rule.no_stretch; count = 0 }
 
 -- with the buffer after it
-abbrev pub told : Salvaged → List ℕ → rule.Answer × List ℕ
+abbrev pub told : Result Salvaged Refusal → List ℕ → rule.Answer × List ℕ
 told r b = (report r, b)
 
 -- what a survey reports, which writes nothing: the answer if the buffer has room

@@ -2,45 +2,30 @@
 // A survey finds both and writes nothing; only then are the messages stored.
 #![tactic(auto)]
 
-ghost use Rattle.std.specs.Prelude.{◌≡◌, [], ◌≤◌, ◌<◌, min, length, drop};
+ghost use Rattle.std.specs.Prelude.{◌≡◌, ◌≤◌, ◌<◌, min, length, drop};
 ghost use Rattle.std.proofs.lemmas.List.Edits.{sets};
-ghost use Rattle.rules.specs.Outcome.{bad};
-ghost use Rattle.refusal.specs.Numbers.{number_of};
 ghost use Rattle.salvage.specs.Salvage as rule;
 ghost use Rattle.rules.specs.Reading.{message_at};
-ghost use Rattle.salvage.specs.Told.{no_stretch, stretch_of, end_of, report, told, surveyed, skips_end, slot_of, start_of, reported, Fit};
+ghost use Rattle.salvage.specs.Told.{stretch_of, end_of, report, told, surveyed, skips_end, slot_of, start_of, reported, Fit};
 ghost use Rattle.salvage.specs.Claims.{without};
 
-use message::{Count, count_packages, front_run, header_in, miscounts};
-use refusal::{Refusal, Why};
+use message::{count_packages, front_run, header_in, miscounts};
+use refusal::{Refusal, Why, refuse};
 
 // A stretch that was skipped: where it starts, and how many bytes it has.
-#[derive(Clone, Copy)]
+#[derive(Clone, Copy, PartialEq, Eq, Default)]
 pub struct Stretch {
     pub start: usize,
     pub size: usize,
 }
 
-// How much was written, or why nothing was.
-#[derive(Clone, Copy)]
-pub enum SalvageAnswer {
-    Done { bytes: usize, messages: usize },
-    Refused(Refusal),
-}
-
-// The answer, and the stretches with their number; stretches behind the last are zero, and all of them where the salvage is refused.
+// How much was written, and the first `count` stretches; those behind the last are zero.
 #[derive(Clone, Copy)]
 pub struct Salvaged {
-    pub answer: SalvageAnswer,
+    pub bytes: usize,
+    pub messages: usize,
     pub stretches: [Stretch; 64],
     pub count: usize,
-}
-
-// A stretch of no bytes, which stands behind the last.
-fn no_stretch() -> Stretch
-    ensures { result ≡ no_stretch }
-{
-    Stretch { start: 0, size: 0 }
 }
 
 // The stretch from one place to another.
@@ -51,17 +36,6 @@ fn stretch_of(start: usize, end: usize) -> Stretch
     Stretch {
         start,
         size: end - start,
-    }
-}
-
-// A salvage that is refused.
-fn refuse(why: Why, place: usize) -> Salvaged
-    ensures { report result ≡ (rule.answered [] (bad (number_of why) place)).0 }
-{
-    Salvaged {
-        answer: SalvageAnswer::Refused(Refusal { why, place }),
-        stretches: [no_stretch(); 64],
-        count: 0,
     }
 }
 
@@ -108,42 +82,36 @@ fn start_of(count: usize, last: usize, end: usize, at: usize) -> usize
     if end == at { last } else { at }
 }
 
-// Where the message at a place ends, if one that passes every check stands there.
-#[derive(Clone, Copy)]
-enum Ends {
-    At(usize),
-    Nowhere,
-}
-
-// The same for the message at place `at`. Why one is refused is not asked, so that all stays in registers in the loop over the offsets.
-fn end_at(s: &[u8], at: usize) -> Ends
+// Where the message at place `at` ends, if one that passes every check stands there. Why one is refused is not asked, so that all stays in registers in
+// the loop over the offsets.
+fn end_at(s: &[u8], at: usize) -> Option<usize>
     ensures { result ≡ end_of (message_at s.now at) }
 {
-    let Count::Number(run) = front_run(s, at) else {
-        return Ends::Nowhere;
+    let Ok(run) = front_run(s, at) else {
+        return None;
     };
     let h = header_in(s, at, run);
     let from = at + (24 + 4 * h.words as usize);
     let next = at + h.length as usize;
-    let Count::Number(packages) = count_packages(&s[from..next]) else {
-        return Ends::Nowhere;
+    let Ok(packages) = count_packages(&s[from..next]) else {
+        return None;
     };
     let options = at + 24;
     let to = options + h.run;
     if miscounts(&s[options..to], packages) {
-        return Ends::Nowhere;
+        return None;
     }
-    Ends::At(next)
+    Some(next)
 }
 
 // What is kept and what is skipped, at each offset. The last stretch, if there is one, runs from `last` to `end`.
-fn survey(s: &[u8]) -> Salvaged
+fn survey(s: &[u8]) -> Result<Salvaged, Refusal>
     ensures { report result ≡ surveyed s.now }
 {
     if 65536 < s.len() {
         return refuse(Why::Large, 65536);
     }
-    let mut stretches = [no_stretch(); 64];
+    let mut stretches = [Stretch::default(); 64];
     let mut count: usize = 0;
     let mut last: usize = 0;
     let mut end: usize = 0;
@@ -152,12 +120,12 @@ fn survey(s: &[u8]) -> Salvaged
     let mut at: usize = 0;
     while at < s.len() {
         match end_at(s, at) {
-            Ends::At(next) => {
+            Some(next) => {
                 bytes += next - at;
                 messages += 1;
                 at = next;
             }
-            Ends::Nowhere => {
+            None => {
                 let slot = slot_of(count, end, at);
                 if slot == 64 {
                     return refuse(Why::Holes, at);
@@ -170,47 +138,40 @@ fn survey(s: &[u8]) -> Salvaged
             }
         }
     }
-    Salvaged {
-        answer: SalvageAnswer::Done { bytes, messages },
+    Ok(Salvaged {
+        bytes,
+        messages,
         stretches,
         count,
-    }
+    })
 }
 
-// Stores what is between the first `count` stretches, which are in order and inside s: the kept messages, one behind the other.
+// Stores what is between the first `count` stretches, which are in order and inside s: the kept messages, one behind the other. The stretches are taken by
+// value, since whoever lends an array copies it first.
 fn deliver(s: &[u8], stretches: [Stretch; 64], count: usize, out: &mut [u8])
     requires { (length s.now ≤ 65536) × (count ≤ 64) × Fit 0 (length s.now) (reported stretches count) }
     ensures { out.new ≡ sets out.old 0 (without (reported stretches count) 0 s.now) }
 {
     let mut from: usize = 0;
     let mut to: usize = 0;
-    let mut i: usize = 0;
-    while i < count {
+    for i in 0..count {
         let h = stretches[i];
         let n = h.start - from;
         wire::put_part(out, to, s, from, n);
         to += n;
         from = h.start + h.size;
-        i += 1;
     }
     wire::put_part(out, to, s, from, s.len() - from);
 }
 
 // Writes the kept messages of s unchanged, and reports what was skipped.
-pub fn salvage(s: &[u8], out: &mut [u8]) -> Salvaged
+pub fn salvage(s: &[u8], out: &mut [u8]) -> Result<Salvaged, Refusal>
     ensures { told result out.new ≡ rule.salvage s.now out.old }
 {
-    let found = survey(s);
-    let answer = found.answer;
-    match answer {
-        SalvageAnswer::Refused(_) => found,
-        SalvageAnswer::Done { bytes, messages: _ } => {
-            if out.len() < bytes {
-                return refuse(Why::Room, bytes);
-            }
-            let stretches = found.stretches;
-            deliver(s, stretches, found.count, out);
-            found
-        }
+    let found = survey(s)?;
+    if out.len() < found.bytes {
+        return refuse(Why::Room, found.bytes);
     }
+    deliver(s, found.stretches, found.count, out);
+    Ok(found)
 }

@@ -1,5 +1,5 @@
 -- Reading a row and a sheet: a law for each `return`, and what a loop over the rows keeps.
-use Prim.Native.Nat.{ℕ, suc, ◌+◌, ◌-◌, ◌*◌, ◌/◌, ◌%◌, ◌≤◌, ◌<◌}
+use Prim.Native.Nat.{ℕ, zero, suc, ◌+◌, ◌-◌, ◌*◌, ◌/◌, ◌%◌, ◌≤◌, ◌<◌}
 use mathlib.Core.Path.{◌≡◌, refl, sym, ap, ◌∙◌}
 use mathlib.Core.Bool.{Bool, true, false, not, ◌&&◌}
 use mathlib.Core.List.{List, [], ◌∷◌, ◌++◌, map, append_assoc}
@@ -8,24 +8,22 @@ use lib.Dec.{leb, ltb, eqb}
 use lib.ListN.{length, take, drop, set, replicate, length-append, length-drop, length-map}
 use lib.Seq.{set_at}
 use borrow.Author.Tests.{ltb-false, le-leb, lt-leb, le-ltb, ne_eqb, eqb-true, not-false}
+use Rattle.std.specs.Prelude.{Ok}
 use Rattle.rules.specs.Outcome.{Outcome, good, bad, ROW}
 use Rattle.rules.specs.Bytes.{Bytes, word}
 use Rattle.rules.specs.Items.{items}
 use Rattle.rules.specs.Message.{most_nanos}
 use Rattle.rules.specs.Sheet as rules
 use Rattle.rules.specs.Sheet.{big_endian, row_of, start_of, end_of, row_fits, sheet_rows, shown_rows}
-use Rattle.rules.proofs.Outcomes.{pass, halt, step, stop, passed, both, neither, good_inj, good≢bad}
+use Rattle.rules.proofs.Outcomes.{pass, halt, step, stop, passed, stepped, fronted, both, neither, good_inj, good≢bad}
 use Rattle.rules.proofs.Numbers.{bytes_drop, bytes_take}
 use Rattle.rules.proofs.Growing.{map-append, map-replicate}
 use Rattle.rules.proofs.Loops.{Doing, doing_start, doing_next, doing_end, doing_bad, rest}
 use Rattle.rules.proofs.Rows.{row_words}
 use Rattle.sheet.specs.declared.Row.{Row}
-use Rattle.sheet.specs.declared.RowRead.{RowRead}
-use Rattle.sheet.specs.declared.RowRead.TheVariants.{Good, Bad}
-use Rattle.sheet.specs.declared.SheetAnswer.TheVariants as Answer
 use Rattle.sheet.specs.Rows.{row_in, row_at, no_row}
-use Rattle.sheet.specs.Reading.{ReadsRow, told_row, wrong_size, answer, told}
-use Rattle.sheet.specs.Table.{Keeps}
+use Rattle.sheet.specs.Reading.{first_fits, wrong_size, answer, told}
+use Rattle.sheet.specs.Table.{Keeps, count_of_rows}
 
 and_yes : (b : Bool) → b ≡ (b && true)
 and_yes true = refl
@@ -79,36 +77,31 @@ module _ (s : List ℕ) (l : 32 ≤ length s) (b : Bytes s) where
   abbrev found : rules.Row
   found = row_of (big_endian 0 (take 32 s))
 
-  refused : row_fits found ≡ false → ReadsRow s Bad
-  unfolding rules.row
-  refused e = record { reads = λ p. sym (halt (not (row_fits found)) ROW p (good (found, 32)) (rw e)) }
-
   bits : found.spare ≡ word s 28 / 2 % 8
   bits = ap (λ (r : rules.Row). r.spare) (row_words s l b)
-
-  pub spare-bits : (word s 28 / 2 % 8 ≡ 0 → ⊥) → ReadsRow s Bad
-  spare-bits h = refused (spared found (λ z. h (sym bits ∙ z)))
 
   no_spare : word s 28 / 2 % 8 ≡ 0 → found ≡ row_in (row_at s)
   no_spare e = row_words s l b ∙ rw e
 
-  -- a row that the rules take is the one in its eight words
-  row-taken : (p : ℕ) (r : rules.Row × ℕ) → rules.row p s ≡ good r → r ≡ (row_in (row_at s), 32)
+  pub spare-bits : (word s 28 / 2 % 8 ≡ 0 → ⊥) → false ≡ first_fits s
+  spare-bits h = sym (spared found (λ z. h (sym bits ∙ z)))
+
+  pub by-words : word s 28 / 2 % 8 ≡ 0 → row_fits (row_in (row_at s)) ≡ first_fits s
+  by-words e = ap row_fits (sym (no_spare e))
+
+  -- one that keeps the rules is the one in its eight words
+  row-read : (p : ℕ) → first_fits s ≡ true → rules.row p s ≡ good (row_in (row_at s), 32)
   unfolding rules.row
-  row-taken p r e =
-      let (a, f) = passed _ _ _ _ e in
-      sym (good_inj f) ∙ ap (λ (x : rules.Row). (x, 32)) (no_spare (sym bits ∙ no_bits found (not-false _ a)))
+  row-read p e = pass _ _ _ _ (rw e) (ap (λ (r : rules.Row). good (r, 32)) (no_spare (sym bits ∙ no_bits found e)))
 
-  module _ (r : Row) (is : r ≡ row_at s) (none : word s 28 / 2 % 8 ≡ 0) where
-    same : found ≡ row_in r
-    same = no_spare none ∙ ap row_in (sym is)
+-- one that does not is refused
+row-refused : (s : List ℕ) (p : ℕ) → first_fits s ≡ false → rules.row p s ≡ bad ROW p
+unfolding rules.row
+row-refused s p e = halt _ _ _ _ (rw e)
 
-    pub row-bad : row_fits (row_in r) ≡ false → ReadsRow s Bad
-    row-bad f = refused (rw same f)
-
-    pub row-good : row_fits (row_in r) ≡ true → ReadsRow s (Good r)
-    unfolding rules.row
-    row-good f = record { reads = λ p. sym (rw same (pass (not (row_fits (row_in r))) ROW p (good (row_in r, 32)) (rw f) refl)) }
+row-kept : (s : List ℕ) (p : ℕ) {r : rules.Row × ℕ} → rules.row p s ≡ good r → first_fits s ≡ true
+unfolding rules.row
+row-kept s p e = not-false _ (passed _ _ _ _ e).0
 
 -- what each loop over a sheet keeps: its size is right, and the rows before place `at` are read
 pub record Through (s : List ℕ) (done : List rules.Row) (at : ℕ) : Type 0 where
@@ -145,27 +138,78 @@ module _ (s : List ℕ) (done : List rules.Row) (at : ℕ) (inv : Through s done
     pub through_bad : {n p : ℕ} → rules.row at (drop at s) ≡ bad n p → rules.sheet s ≡ bad n p
     through_bad e = sized (doing_bad rules.row s done at inv.doing l e)
 
-    -- what is lent from there on has a row, and it tells what stands there
-    pub room : 32 ≤ length (take (length s - at) (drop at s))
+    -- what is lent from there on has a row, and it is the sheet's where it keeps the rules
+    abbrev lent : List ℕ
+    lent = take (length s - at) (drop at s)
+
+    pub room : 32 ≤ length lent
     room = rw (rest s at) (omega (arith, length-drop at s, inv.place, inv.whole))
 
-    pub told-there : {r : RowRead} → ReadsRow (take (length s - at) (drop at s)) r → rules.row at (drop at s) ≡ told_row at r
-    told-there h = rw (rest s at) at (sym (h.reads at))
+    pub row-good : Bytes s → first_fits lent ≡ true → rules.row at (drop at s) ≡ good (row_in (row_at lent), 32)
+    row-good b e = ap (rules.row at) (sym (rest s at)) ∙ (row-read lent room (bytes_take (length s - at) (drop at s) (bytes_drop at s b)) at e)
 
-    -- where the sheet keeps the rules, that is the row in its eight words
-    pub row-there : Keeps s → Bytes s → rules.row at (drop at s) ≡ good (row_in (row_at (take (length s - at) (drop at s))), 32)
-    row-there k b = go (rules.row at (drop at s)) refl
+    pub row-bad : first_fits lent ≡ false → rules.sheet s ≡ bad ROW at
+    row-bad e = through_bad (ap (rules.row at) (sym (rest s at)) ∙ row-refused lent at e)
+
+    -- in a sheet that keeps the rules each does
+    pub row-there : Keeps s → first_fits lent ≡ true
+    row-there k = rw (rest s at) (go (rules.row at (drop at s)) refl)
       where
-        go : (o : Outcome (rules.Row × ℕ)) → rules.row at (drop at s) ≡ o → o ≡ good (row_in (row_at (take (length s - at) (drop at s))), 32)
+        go : (o : Outcome (rules.Row × ℕ)) → rules.row at (drop at s) ≡ o → first_fits (drop at s) ≡ true
         go (bad n p) e = absurd (good≢bad (sym (through_bad e) ∙ k.read))
-        go (good r) e = ap good (row-taken (take (length s - at) (drop at s)) room (bytes_take (length s - at) (drop at s) (bytes_drop at s b)) at r (rw (rest s at) e))
+        go (good r) e = row-kept (drop at s) at e
 
--- what reading a sheet keeps besides: count rows are stored, and the others are zero
-pub record Reading (s : List ℕ) (rows : List Row) (count at : ℕ) : Type 0 where
+-- one row more
+pub through_more : (s : List ℕ) (done : List rules.Row) (i : ℕ) (inv : Through s done (32 * i)) (l : 32 * i < length s) → Bytes s → first_fits (lent s done (32 * i) inv l) ≡ true
+    → Through s (done ++ (row_in (row_at (lent s done (32 * i) inv l)) ∷ [])) (32 * (i + 1))
+through_more s done i inv l b e =
+    let n : 32 * i + 32 ≡ 32 * (i + 1) = omega arith in
+    rw n at (through_next s done (32 * i) inv l (row_in (row_at (lent s done (32 * i) inv l))) (row-good s done (32 * i) inv l b e))
+
+-- a sheet that keeps the rules has as many rows as its bytes allow
+row-long : (p : ℕ) (s : List ℕ) (r : rules.Row × ℕ) → rules.row p s ≡ good r → r.1 ≡ 32
+unfolding rules.row
+row-long p s r e = let (a, f) = passed _ _ _ _ e in sym (ap (λ (x : rules.Row × ℕ). x.1) (good_inj f))
+
+as-many : (k p : ℕ) (s : List ℕ) {rs : List rules.Row} → items rules.row k p s ≡ good rs → (length s - k ≤ 32 * length rs) × (32 * length rs ≤ length s - k + 31)
+unfolding items
+as-many k p [] {rs} e = (omega arith, omega (arith, ap length (good_inj e)))
+as-many (suc k) p (x ∷ s) e = let h = as-many k (suc p) s e in (omega arith, omega arith)
+as-many zero p (x ∷ s) {rs} e =
+    let (r, g, d) = stepped _ _ e in
+    let (l, i, m) = fronted _ _ d in
+    let n = row-long p (x ∷ s) r g in
+    let h = as-many (r.1 - 1) (suc p) s i in
+    (omega (arith, n, h, ap length m), omega (arith, n, h, ap length m))
+
+pub sheet-many : (s : List ℕ) (rs : List rules.Row) → rules.sheet s ≡ good rs → (length s ≤ 1024) × (32 * length rs ≡ length s)
+unfolding rules.sheet
+sheet-many s rs e =
+    let (a, f) = passed _ _ _ _ e in
+    let (b, c) = neither (ltb 1024 (length s)) _ a in
+    let h = as-many 0 0 s f in
+    (ltb-false 1024 (length s) b, omega (arith, h, eqb-true (length s % 32) 0 (not-false _ c)))
+
+-- what its count says
+pub keeps : (s : List ℕ) {n : ℕ} → good n ≡ count_of_rows (rules.sheet s) → Keeps s
+keeps s e = let (rs, g, h) = stepped _ _ (sym e) in record { rows = rs; read = g }
+
+pub counted : (s : List ℕ) (n : ℕ) → good n ≡ count_of_rows (rules.sheet s) → 32 * n ≡ length s
+counted s n e =
+    let (rs, g, h) = stepped _ _ (sym e) in
+    (ap (λ (k : ℕ). 32 * k) (sym (good_inj h))) ∙ (sheet-many s rs g).1
+
+pub through_kept : (s : List ℕ) → Keeps s → Through s [] 0
+unfolding rules.sheet
+through_kept s k = through_start s (passed _ _ _ _ k.read).0
+
+-- what handing out the rows of a sheet with count rows keeps: those before row i are stored, and the others are zero
+pub record Reading (s : List ℕ) (rows : List Row) (count i : ℕ) : Type 0 where
   pub done : List Row
-  pub many : length (map row_in done) ≡ count
-  pub filled : rows ≡ done ++ replicate (32 - count) no_row
-  pub through : Through s (map row_in done) at
+  pub many : length done ≡ i
+  pub all : 32 * count ≡ length s
+  pub filled : rows ≡ done ++ replicate (32 - i) no_row
+  pub through : Through s (map row_in done) (32 * i)
 
 -- one row more
 stored : (done : List Row) (n : ℕ) (r : Row) → n < 32 → length done ≡ n → set (done ++ replicate (32 - n) no_row) n r ≡ (done ++ (r ∷ [])) ++ replicate (32 - (n + 1)) no_row
@@ -173,29 +217,32 @@ stored done n r l e =
     let z : 32 - n ≡ suc (32 - (n + 1)) = omega arith in
     rw z (set_at done no_row (replicate (32 - (n + 1)) no_row) r n e ∙ sym (append_assoc done (r ∷ []) _))
 
-pub start : (s : List ℕ) → wrong_size (length s) ≡ false → Reading s (replicate 32 no_row) 0 0
-start s e = record { done = []; many = refl; filled = refl; through = through_start s e }
+module _ (s : List ℕ) (count : ℕ) (e : good count ≡ count_of_rows (rules.sheet s)) where
+  pub start : Reading s (replicate 32 no_row) count 0
+  start = record { done = []; many = refl; all = counted s count e; filled = refl; through = through_kept s (keeps s e) }
 
-module _ (s : List ℕ) (rows : List Row) (count at : ℕ) (inv : Reading s rows count at) where
-  pub ended : length s ≤ at → told (record { answer = Answer.Good; rows = rows; count = count }) ≡ answer (sheet_rows s)
-  unfolding sheet_rows shown_rows row_of
-  ended l =
-      let f : sheet_rows s ≡ good (map row_in rows, count) =
-      step _ _ (through_end s (map row_in inv.done) at inv.through l) (rw (inv.many, inv.filled, map-append, map-replicate)) in
-      rw f
+  module _ (rows : List Row) (i : ℕ) (inv : Reading s rows count i) where
+    pub next : Bytes s → i < count → Reading s (set rows i (row_at (take (length s - 32 * i) (drop (32 * i) s)))) count (i + 1)
+    next b h =
+        let l : 32 * i < length s = omega (arith, inv.all) in
+        let d = map row_in inv.done in
+        let r = row_at (take (length s - 32 * i) (drop (32 * i) s)) in
+        record {
+          done = inv.done ++ (r ∷ []);
+          many = rw (length-append inv.done (r ∷ [])) (omega (arith, inv.many));
+          all = inv.all;
+          filled = rw inv.filled (stored inv.done i r (omega (arith, inv.all, inv.through.small)) inv.many);
+          through = rw (map-append row_in inv.done (r ∷ [])) (through_more s d i inv.through l b (row-there s d (32 * i) inv.through l (keeps s e)));
+        }
 
-  module _ (l : at < length s) where
-    pub next : (r : Row) → ReadsRow (take (length s - at) (drop at s)) (Good r) → Reading s (set rows count r) (count + 1) (at + 32)
-    next r h = record {
-      done = inv.done ++ (r ∷ []);
-      many = rw (map-append row_in inv.done (r ∷ []), length-append (map row_in inv.done) (row_in r ∷ []), inv.many);
-      filled = rw inv.filled (stored inv.done count r (omega arith) (sym (length-map inv.done row_in) ∙ inv.many));
-      through = rw (map-append row_in inv.done (r ∷ []))
-          (through_next s (map row_in inv.done) at inv.through l (row_in r) (told-there s (map row_in inv.done) at inv.through l h));
-    }
-
-    pub stopped : ReadsRow (take (length s - at) (drop at s)) Bad → rules.sheet s ≡ bad ROW at
-    stopped h = let d = map row_in inv.done in through_bad s d at inv.through l (told-there s d at inv.through l h)
+    pub ended : i ≤ count → count ≤ i → told (Ok (record { rows = rows; count = count })) ≡ answer (sheet_rows s)
+    unfolding sheet_rows shown_rows row_of
+    ended h l =
+        let k : i ≡ count = omega arith in
+        let m : length (map row_in inv.done) ≡ count = length-map inv.done row_in ∙ inv.many ∙ k in
+        let f : sheet_rows s ≡ good (map row_in rows, count) =
+        step _ _ (through_end s (map row_in inv.done) (32 * i) inv.through (omega (arith, inv.all))) (rw (m, inv.filled, map-append, map-replicate, k)) in
+        rw f
 
 -- a sheet of a wrong size is bad
 pub wrong-sized : (s : List ℕ) → wrong_size (length s) ≡ true → rules.sheet s ≡ bad ROW (length s)

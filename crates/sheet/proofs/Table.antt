@@ -1,26 +1,25 @@
 -- A sheet's table, and the near rows of a message: what they have to do with the rules, and what the loops over them keep.
-use Prim.Native.Nat.{ℕ, zero, suc, ◌+◌, ◌-◌, ◌*◌, ◌≤◌, ◌<◌}
+use Prim.Native.Nat.{ℕ, suc, ◌+◌, ◌-◌, ◌*◌, ◌≤◌, ◌<◌}
 use mathlib.Core.Path.{◌≡◌, refl, sym, ap, ◌∙◌}
 use mathlib.Core.Bool.{Bool, true, false, not, ◌&&◌, ◌||◌, and-true, and-false, or-false, or_assoc}
 use mathlib.Core.List.{List, [], ◌∷◌, ◌++◌, append_assoc, append-nil}
 use native.Mathlib.Omega.{arith}
 use lib.Dec.{leb, ltb, eqb}
 use lib.ListN.{length, take, drop, get_or, set, length-append, length-drop}
-use lib.Seq.{drop-cons, sets}
-use borrow.Author.Tests.{ltb-false}
-use Rattle.rules.specs.Outcome.{Outcome, good, bad}
+use lib.Seq.{drop-cons, sets, take-suc, length-take-le}
+use native.Mathlib.Numerals.{add-one}
+use Rattle.rules.specs.Outcome.{Outcome, bad}
 use Rattle.rules.specs.Bytes.{Bytes}
-use Rattle.rules.specs.Items.{items}
 use Rattle.rules.specs.Packages.{Package, package_time}
 use Rattle.rules.specs.Message.{is_simulated, Message}
 use Rattle.rules.specs.Sheet as rules
 use Rattle.rules.specs.Sheet.{start_of, end_of, grants}
 use Rattle.rules.specs.Copy.{granted}
-use Rattle.rules.proofs.Outcomes.{passed, stepped, fronted, good_inj, neither, refused-only}
+use Rattle.rules.proofs.Outcomes.{refused-only}
 use Rattle.rules.proofs.Loops.{sets-sets}
 use Rattle.sheet.specs.Rows.{row_in, row_at}
 use Rattle.sheet.specs.Table.{one_if, table_of, count_of_rows, laid_out, Keeps, reaches, near_of, within, near_grants}
-use Rattle.sheet.proofs.Reading.{Through, through_start, through_next, through_end, row-there}
+use Rattle.sheet.proofs.Reading.{Through, through_kept, through_more, through_end, row-there}
 
 pub length_table : (rs : List rules.Row) → length (table_of rs) ≡ 7 * length rs
 unfolding table_of
@@ -58,40 +57,11 @@ near_is (r ∷ rs) m p =
     near_first r rs m.id (is_simulated m.flags) p.id (package_time m.seconds m.nanos p.delta)
     ∙ ap (λ (b : Bool). grants m.id (is_simulated m.flags) p.id (package_time m.seconds m.nanos p.delta) r || b) (near_is rs m p)
 
--- a sheet has no more rows than its bytes allow
-row-long : (p : ℕ) (s : List ℕ) (r : rules.Row × ℕ) → rules.row p s ≡ good r → r.1 ≡ 32
-unfolding rules.row
-row-long p s r e = let (a, f) = passed _ _ _ _ e in sym (ap (λ (x : rules.Row × ℕ). x.1) (good_inj f))
-
-rows_few : (k p : ℕ) (s : List ℕ) {rs : List rules.Row} → items rules.row k p s ≡ good rs → 32 * length rs ≤ length s - k + 31
-unfolding items
-rows_few k p [] {rs} e = omega (arith, ap length (good_inj e))
-rows_few (suc k) p (x ∷ s) e = omega (arith, rows_few k (suc p) s e)
-rows_few zero p (x ∷ s) {rs} e =
-    let (r, g, d) = stepped _ _ e in
-    let (l, i, m) = fronted _ _ d in
-    omega (arith, row-long p (x ∷ s) r g, rows_few (r.1 - 1) (suc p) s i, ap length m)
-
-pub sheet-few : (s : List ℕ) (rs : List rules.Row) → rules.sheet s ≡ good rs → length rs ≤ 32
-unfolding rules.sheet
-sheet-few s rs e =
-    let (a, f) = passed _ _ _ _ e in
-    let (b, c) = neither (ltb 1024 (length s)) _ a in
-    omega (arith, ltb-false 1024 (length s) b, rows_few 0 0 s f)
-
--- four numbers, stored one behind the other
-pub four_stores : (v : List ℕ) (k a b c d : ℕ) → set (set (set (set v k a) (k + 1) b) (k + 2) c) (k + 3) d ≡ sets v k (a ∷ b ∷ c ∷ d ∷ [])
-four_stores v k a b c d = rw (sets-sets (a ∷ []) (b ∷ []) v k, sets-sets (a ∷ b ∷ []) (c ∷ []) v k) (sets-sets (a ∷ b ∷ c ∷ []) (d ∷ []) v k)
-
--- and a row's seven
-pub row_stores : (v : List ℕ) (k : ℕ) (r : rules.Row)
-    → set (set (set (sets v k (r.first_message ∷ r.last_message ∷ r.first_package ∷ r.last_package ∷ [])) (k + 4) (start_of r)) (k + 5) (end_of r)) (k + 6) (one_if r.acquired_only)
-    ≡ sets v k (table_of (r ∷ []))
-unfolding table_of
-row_stores v k r = rw (
-  sets-sets (r.first_message ∷ r.last_message ∷ r.first_package ∷ r.last_package ∷ []) (start_of r ∷ []) v k,
-  sets-sets (r.first_message ∷ r.last_message ∷ r.first_package ∷ r.last_package ∷ start_of r ∷ []) (end_of r ∷ []) v k,
-) (sets-sets (r.first_message ∷ r.last_message ∷ r.first_package ∷ r.last_package ∷ start_of r ∷ end_of r ∷ []) (one_if r.acquired_only ∷ []) v k)
+-- one number more
+pub one_more : (v : List ℕ) (k : ℕ) (l : List ℕ) (i : ℕ) → i < length l → set (sets v k (take i l)) (k + i) (get_or l i 0) ≡ sets v k (take (i + 1) l)
+one_more v k l i h =
+    let n : length (take i l) ≡ i = length-take-le i l (omega arith) in
+    rw (add-one, take-suc l i 0 h) (rw n at (sets-sets (take i l) (get_or l i 0 ∷ []) v k))
 
 -- one row more in the table
 table_append : (rs qs : List rules.Row) → table_of (rs ++ qs) ≡ table_of rs ++ table_of qs
@@ -107,8 +77,8 @@ pub record Laid (s table₀ table : List ℕ) (i : ℕ) : Type 0 where
 
 module _ (s table₀ : List ℕ) where
   pub lay_start : Keeps s → Laid s table₀ table₀ 0
-  unfolding table_of rules.sheet
-  lay_start k = record { done = []; through = through_start s (passed _ _ _ _ k.read).0; stored = refl }
+  unfolding table_of
+  lay_start k = record { done = []; through = through_kept s k; stored = refl }
 
   module _ (table : List ℕ) (i : ℕ) (inv : Laid s table₀ table i) where
     pub lay_next : Keeps s → Bytes s → 32 * i < length s
@@ -116,10 +86,9 @@ module _ (s table₀ : List ℕ) where
     lay_next k b l =
         let r = row_in (row_at (take (length s - 32 * i) (drop (32 * i) s))) in
         let z : 0 + length (table_of inv.done) ≡ 7 * i = omega (arith, length_table inv.done, inv.through.place) in
-        let n : 32 * i + 32 ≡ 32 * (i + 1) = omega arith in
         record {
           done = inv.done ++ (r ∷ []);
-          through = rw n at (through_next s inv.done (32 * i) inv.through l r (row-there s inv.done (32 * i) inv.through l k b));
+          through = through_more s inv.done i inv.through l b (row-there s inv.done (32 * i) inv.through l k);
           stored = rw (table_append inv.done (r ∷ []), inv.stored) (rw z at (sets-sets (table_of inv.done) (table_of (r ∷ [])) table₀ 0));
         }
 
@@ -131,10 +100,6 @@ pub left : (s table : List ℕ) {n p : ℕ} → bad n p ≡ count_of_rows (rules
 left s table e =
     ap (λ (o : Outcome (List rules.Row)). laid_out o table) (sym (refused-only _ _ (sym e)))
 
--- and one that has rows keeps the rules
-pub keeps : (s : List ℕ) {n : ℕ} → good n ≡ count_of_rows (rules.sheet s) → Keeps s
-keeps s e = let (rs, g, h) = stepped _ _ (sym e) in record { rows = rs; read = g }
-
 -- the numbers from place i on
 cons-at : (l : List ℕ) (i j : ℕ) → i < length l → j ≡ suc i → drop i l ≡ get_or l i 0 ∷ drop j l
 cons-at l i j h e = rw e (drop-cons l i 0 h)
@@ -145,6 +110,17 @@ four l i h = rw (
   cons-at l (i + 1) (i + 2) (omega arith) (omega arith),
   cons-at l (i + 2) (i + 3) (omega arith) (omega arith),
   cons-at l (i + 3) (i + 4) (omega arith) (omega arith),
+)
+
+-- the four of the row at place i that its near row has
+pub near-four : (l : List ℕ) (i : ℕ) → i + 6 < length l
+    → take (i + 6 - (i + 2)) (drop (i + 2) l) ≡ get_or l (i + 2) 0 ∷ get_or l (i + 3) 0 ∷ get_or l (i + 4) 0 ∷ get_or l (i + 5) 0 ∷ []
+near-four l i h = let n : i + 6 - (i + 2) ≡ 4 = omega arith in rw (
+  n,
+  cons-at l (i + 2) (i + 3) (omega arith) (omega arith),
+  cons-at l (i + 3) (i + 4) (omega arith) (omega arith),
+  cons-at l (i + 4) (i + 5) (omega arith) (omega arith),
+  cons-at l (i + 5) (i + 6) (omega arith) (omega arith),
 )
 
 seven : (l : List ℕ) (i : ℕ) → i + 7 ≤ length l

@@ -8,6 +8,7 @@ use lib.Dec.{leb, ltb, eqb}
 use lib.ListN.{length, take}
 use lib.Seq.{sets, length-sets}
 use borrow.Author.Tests.{leb-true, eqb-true, not-false}
+use Rattle.std.specs.Prelude.{Result, Ok, Err}
 use Rattle.rules.specs.Outcome.{Outcome, good, bad}
 use Rattle.rules.specs.Items.{items}
 use Rattle.rules.specs.Packages as rules
@@ -19,11 +20,10 @@ use Rattle.rules.specs.Copy.{granted}
 use Rattle.rules.proofs.Outcomes.{passed, stepped, fronted, good_inj, both, refused-only}
 use Rattle.rules.proofs.Kept.{take-sets}
 use Rattle.refusal.specs.declared.Refusal.{Refusal}
-use Rattle.refusal.specs.Numbers.{number_of}
-use Rattle.sheet.specs.declared.TableAnswer.{TableAnswer}
-use Rattle.sheet.specs.declared.TableAnswer.TheVariants as answer
-use Rattle.sheet.specs.Table.{one_if, table_of, rows_in, reaches, near_of, near_grants, count_of_rows, laid_out, told_table}
-use Rattle.sheet.proofs.Table.{near_is, length_table, sheet-few}
+use Rattle.refusal.specs.Numbers.{number_of, outcome_of}
+use Rattle.sheet.specs.Table.{one_if, table_of, rows_in, reaches, near_of, near_grants, count_of_rows, laid_out}
+use Rattle.sheet.proofs.Reading.{sheet-many}
+use Rattle.sheet.proofs.Table.{near_is, length_table}
 
 -- ---- the near rows of a table are those of its rows
 
@@ -144,13 +144,13 @@ abbrev pub RowsRead : List ℕ → List ℕ → ℕ → Type 0
 RowsRead sheetBytes table n = (7 * n ≤ 224) × (7 * n ≤ length table) × (rows.sheet sheetBytes ≡ good (rows_in (take (7 * n) table)))
 
 -- what reading a sheet into a table answered, by its promise
-module _ (sheetBytes before after : List ℕ) (x : TableAnswer) (told : told_table x ≡ count_of_rows (rows.sheet sheetBytes)) (laid : after ≡ laid_out (rows.sheet sheetBytes) before) where
+module _ (sheetBytes before after : List ℕ) (x : Result ℕ Refusal) (told : outcome_of x ≡ count_of_rows (rows.sheet sheetBytes)) (laid : after ≡ laid_out (rows.sheet sheetBytes) before) where
   -- its rows
-  pub rows-read : length before ≡ 224 → (n : ℕ) → x ≡ answer.Rows n → RowsRead sheetBytes after n
+  pub rows-read : length before ≡ 224 → (n : ℕ) → x ≡ Ok n → RowsRead sheetBytes after n
   rows-read l n e =
-      let (rs, g, q) = stepped _ _ (sym (ap told_table (sym e) ∙ told)) in
+      let (rs, g, q) = stepped _ _ (sym (ap outcome_of (sym e) ∙ told)) in
       let m : length rs ≡ n = good_inj q in
-      let few = sheet-few sheetBytes rs g in
+      let (few, whole) = sheet-many sheetBytes rs g in
       let h : length (table_of rs) ≤ length before = omega (arith, length_table rs) in
       let is : after ≡ sets before 0 (table_of rs) = laid ∙ ap (λ (o : Outcome (List rows.Row)). laid_out o before) g in
       let t : take (7 * n) after ≡ table_of rs =
@@ -158,5 +158,5 @@ module _ (sheetBytes before after : List ℕ) (x : TableAnswer) (told : told_tab
       (omega arith, omega (arith, ap length is, length-sets before 0 (table_of rs)), g ∙ ap good (sym (ap rows_in t ∙ sheet-again sheetBytes rs g)))
 
   -- or why it is refused
-  pub sheet-refused : (f : Refusal) → x ≡ answer.Refused f → rows.sheet sheetBytes ≡ bad (number_of f.why) f.place
-  sheet-refused f e = refused-only _ _ (sym (ap told_table (sym e) ∙ told))
+  pub sheet-refused : (f : Refusal) → x ≡ Err f → rows.sheet sheetBytes ≡ bad (number_of f.why) f.place
+  sheet-refused f e = refused-only _ _ (sym (ap outcome_of (sym e) ∙ told))

@@ -1,23 +1,15 @@
--- What reading a row, and reading a sheet, tell.
-use Rattle.std.specs.Prelude.{ℕ, ◌*◌, ◌%◌, ◌≡◌, Bool, not, ◌||◌, List, map, ltb, eqb}
-use Rattle.rules.specs.Outcome.{Outcome, good, bad, ROW}
+-- What a sheet's size and its rows are tested for, and what reading it tells.
+use Rattle.std.specs.Prelude.{ℕ, ◌*◌, ◌%◌, Bool, not, ◌||◌, List, map, ltb, eqb, take, Result, Ok, Err}
+use Rattle.rules.specs.Outcome.{Outcome, good}
 use Rattle.rules.specs.Sheet as rules
 use Rattle.refusal.specs.Numbers.{refused}
-use Rattle.sheet.specs.declared.RowRead.{RowRead}
-use Rattle.sheet.specs.declared.RowRead.TheVariants as Read
-use Rattle.sheet.specs.declared.SheetAnswer.{SheetAnswer}
-use Rattle.sheet.specs.declared.SheetAnswer.TheVariants as Answer
-use Rattle.sheet.specs.declared.SheetRead.{SheetRead}
+use Rattle.refusal.specs.declared.Refusal.{Refusal}
+use Rattle.sheet.specs.declared.Sheet.{Sheet}
 use Rattle.sheet.specs.Rows.{row_in}
 
--- a row read at place p
-abbrev pub told_row : ℕ → RowRead → Outcome (rules.Row × ℕ)
-told_row p (Read.Good r) = good (row_in r, 32)
-told_row p Read.Bad = bad ROW p
-
--- wherever s stands, it has this row at its start
-pub record ReadsRow (s : List ℕ) (r : RowRead) : Type 0 where
-  pub reads : (p : ℕ) → told_row p r ≡ rules.row p s
+-- the row at the start of s keeps the rules
+abbrev pub first_fits : List ℕ → Bool
+first_fits s = rules.row_fits (rules.row_of (rules.big_endian 0 (take rules.row_bytes s)))
 
 -- a sheet of so many bytes does not have whole rows, or has too many
 abbrev pub wrong_size : ℕ → Bool
@@ -27,9 +19,10 @@ wrong_size n = ltb (rules.most_rows * rules.row_bytes) n || not (eqb (n % rules.
 abbrev pub answer : Outcome (List rules.Row × ℕ) → Outcome (List rules.Row × ℕ) × (List rules.Row × ℕ)
 answer o = (o, rules.shown_rows o)
 
-abbrev pub outcome_of : SheetAnswer → List rules.Row × ℕ → Outcome (List rules.Row × ℕ)
-outcome_of Answer.Good x = good x
-outcome_of (Answer.Refused f) x = refused f
+-- the rows of a sheet, zero behind the last, and how many of them are the sheet's
+abbrev pub rows_of : Sheet → List rules.Row × ℕ
+rows_of s = (map row_in s.rows, s.count)
 
-abbrev pub told : SheetRead → Outcome (List rules.Row × ℕ) × (List rules.Row × ℕ)
-told r = (outcome_of r.answer (map row_in r.rows, r.count), (map row_in r.rows, r.count))
+abbrev pub told : Result Sheet Refusal → Outcome (List rules.Row × ℕ) × (List rules.Row × ℕ)
+told (Ok s) = (good (rows_of s), rows_of s)
+told (Err r) = answer (refused r)

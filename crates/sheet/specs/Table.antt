@@ -4,9 +4,6 @@ use Rattle.std.proofs.lemmas.List.Edits.{sets}
 use Rattle.rules.specs.Outcome.{Outcome, good, bad, ◌>>=◌}
 use Rattle.rules.specs.Sheet as rules
 use Rattle.rules.specs.Sheet.{start_of, end_of}
-use Rattle.refusal.specs.Numbers.{refused}
-use Rattle.sheet.specs.declared.TableAnswer.{TableAnswer}
-use Rattle.sheet.specs.declared.TableAnswer.TheVariants.{Rows, Refused}
 
 abbrev pub one_if : Bool → ℕ
 one_if true = 1
@@ -82,7 +79,3 @@ pub record Keeps (s : List ℕ) : Type 0 where
 abbrev pub laid_out : Outcome (List rules.Row) → List ℕ → List ℕ
 laid_out (good rs) table = sets table 0 (table_of rs)
 laid_out (bad n p) table = table
-
-abbrev pub told_table : TableAnswer → Outcome ℕ
-told_table (Rows n) = good n
-told_table (Refused f) = refused f

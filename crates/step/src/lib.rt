@@ -6,7 +6,8 @@ ghost use Rattle.std.specs.Prelude.{◌≡◌};
 ghost use Rattle.step.specs.Step.{step, measured_step};
 ghost use Rattle.step.specs.Told.{state_in, told, told_measured};
 
-use numbered::{Answer, copy};
+use numbered::{Progress, copy};
+use refusal::Refusal;
 
 // The running numbers: the first `held` of ids are message ids, each once, and beside each stands the sequence number that its next message gets.
 // What stands in the other places does not count, and comes back as it was handed in.
@@ -19,7 +20,7 @@ pub struct State {
 
 #[derive(Clone, Copy)]
 pub struct Stepped {
-    pub answer: Answer,
+    pub answer: Result<Progress, Refusal>,
     pub state: State,
 }
 

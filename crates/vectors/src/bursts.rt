@@ -1,51 +1,22 @@
 // The randomizer and bursts.
 ghost use Rattle.std.specs.Prelude.{◌≤◌};
 
-use burst::{Opened, Randomized};
-
 // Number, place and codeblocks.
 fn opened(rt: &HostRuntime, buf: &mut [u8]) {
-    match burst::open_burst(buf) {
-        Opened::Done { blocks } => {
-            crate::two_zeros(rt);
-            crate::number(rt, blocks);
-        }
-        Opened::Refused(x) => {
-            crate::refusal(rt, x);
-            crate::number(rt, 0);
-        }
-    }
+    crate::counted(rt, burst::open_burst(buf));
     crate::end(rt);
 }
 
 // Number and place.
 fn randomized(rt: &HostRuntime, buf: &mut [u8]) {
-    match burst::randomize(buf) {
-        Randomized::Done => {
-            crate::two_zeros(rt);
-        }
-        Randomized::Refused(x) => {
-            crate::refusal(rt, x);
-        }
-    }
+    crate::told(rt, burst::randomize(buf).err());
     crate::end(rt);
-}
-
-// 0 for equal bytes, and 1 for others.
-fn differ(a: u8, b: u8) -> usize
-    ensures { result ≤ 1 }
-{
-    if a == b { 0 } else { 1 }
 }
 
 // How many bytes of s are not v.
 fn others(rt: &HostRuntime, s: &[u8], v: u8) {
-    let mut n = 0;
-    for i in 0..s.len() {
-        n += differ(s[i], v);
-    }
-    crate::number(rt, n);
-    crate::end(rt);
+    let n = s.iter().filter(|b| **b != v).count();
+    let _ = println!(rt; "{n} ");
 }
 
 // A marker and two codeblocks of zero bytes.

@@ -3,7 +3,7 @@ ghost use Rattle.std.specs.Prelude.{◌≤◌};
 
 // The answer, and the buffer.
 fn cleaned(rt: &HostRuntime, s: &[u8], out: &mut [u8]) {
-    crate::writing::answer(rt, compose::clean(s, out));
+    crate::counted(rt, compose::clean(s, out));
     crate::show(rt, out);
 }
 

@@ -1,78 +1,54 @@
 // Headers, option runs and recordings.
 ghost use Rattle.std.specs.Prelude.{◌≤◌};
 
-use message::{Checked, Count, Header, HeaderRead, MessageRead};
+use message::{Counts, Header};
+use refusal::Refusal;
 
 // W, flags, message id, sequence number, length, seconds and nanoseconds.
 fn fields(rt: &HostRuntime, h: Header) {
-    crate::four(rt, h.words as u32, h.flags as u32, h.id.0, h.sequence);
-    crate::word(rt, h.length);
-    crate::word(rt, h.seconds);
-    crate::word(rt, h.nanos);
+    let _ = print!(rt;
+        "{} {} {} {} {} {} {} ",
+        h.words, h.flags, h.id.0, h.sequence, h.length, h.seconds, h.nanos
+    );
 }
 
 // Number, place, the header's fields, and the option run.
 fn header(rt: &HostRuntime, s: &[u8]) {
-    match message::read_header(s) {
-        HeaderRead::Header(h) => {
-            crate::two_zeros(rt);
-            fields(rt, h);
-        }
-        HeaderRead::Refused(x) => {
-            crate::refusal(rt, x);
-        }
+    let read = message::read_header(s);
+    crate::told(rt, read.err());
+    if let Ok(h) = read {
+        fields(rt, h);
     }
     crate::show(rt, message::option_run(s));
 }
 
 // Number, place, messages and packages.
 fn checked(rt: &HostRuntime, s: &[u8]) {
-    match message::check(s) {
-        Checked::Passed { messages, packages } => {
-            crate::two_zeros(rt);
-            crate::number(rt, messages);
-            crate::number(rt, packages);
-        }
-        Checked::Refused(x) => {
-            crate::refusal(rt, x);
-            crate::two_zeros(rt);
-        }
-    }
-    crate::end(rt);
+    let checked = message::check(s);
+    crate::told(rt, checked.err());
+    let Counts { messages, packages } = checked.unwrap_or(Counts {
+        messages: 0,
+        packages: 0,
+    });
+    let _ = println!(rt; "{messages} {packages} ");
 }
 
 // Number, place, the header's fields, where the payload and the next message begin, and how many packages there are, of the message at a
 // place of M.
 fn message_at(rt: &HostRuntime, at: usize) {
     let m = crate::message_m();
-    match message::message_at(&m, at) {
-        MessageRead::Message(k) => {
-            crate::two_zeros(rt);
-            let h = k.header;
-            fields(rt, h);
-            crate::number(rt, k.payload);
-            crate::number(rt, k.next);
-            crate::number(rt, k.packages);
-        }
-        MessageRead::Refused(x) => {
-            crate::refusal(rt, x);
-        }
+    let read = message::message_at(&m, at);
+    crate::told(rt, read.err());
+    if let Ok(k) = read {
+        fields(rt, k.header);
+        let _ = print!(rt; "{} {} {} ", k.payload, k.next, k.packages);
     }
     crate::end(rt);
 }
 
 // Number, place and the number told.
-fn count(rt: &HostRuntime, c: Count) {
-    match c {
-        Count::Number(n) => {
-            crate::two_zeros(rt);
-            crate::number(rt, n);
-        }
-        Count::Refused(x) => {
-            crate::refusal(rt, x);
-            crate::number(rt, 0);
-        }
-    }
+fn count(rt: &HostRuntime, c: Result<usize, Refusal>) {
+    crate::counted(rt, c);
     crate::end(rt);
 }
 

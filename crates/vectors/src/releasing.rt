@@ -2,8 +2,9 @@
 ghost use Rattle.std.specs.Prelude.{◌≤◌};
 
 use message::{Mdid, Pdid};
-use release::Answer;
-use sheet::{Row, SheetAnswer, Source};
+use refusal::Refusal;
+use release::Totals;
+use sheet::{Row, Sheet, Source, Time};
 
 // Row R of document 01, ids 7 to 7, 1 to 1, from 100 s to 101 s; and a byte behind it.
 fn row_r() -> [u8; 33] {
@@ -11,43 +12,54 @@ fn row_r() -> [u8; 33] {
         \x00\x00\x00\x64\x00\x00\x00\x00\x00\x00\x01\x94\x00\x00\x00\x00\x00"
 }
 
+// A sheet that has no row: all its numbers are zero.
+fn no_sheet() -> Sheet {
+    let none = Time {
+        seconds: 0,
+        nanos: 0,
+    };
+    let row = Row {
+        first_mdid: Mdid(0),
+        last_mdid: Mdid(0),
+        first_pdid: Pdid(0),
+        last_pdid: Pdid(0),
+        start: none,
+        end: none,
+        acquired_only: false,
+    };
+    Sheet {
+        rows: [row; 32],
+        count: 0,
+    }
+}
+
 fn row(rt: &HostRuntime, r: Row) {
-    crate::four(
-        rt,
+    let _ = print!(rt;
+        "{} {} {} {} {} {} {} {} {} ",
         r.first_mdid.0,
         r.last_mdid.0,
         r.first_pdid.0,
         r.last_pdid.0,
-    );
-    crate::four(
-        rt,
         r.start.seconds,
         r.start.nanos,
         r.end.seconds,
         r.end.nanos,
+        r.acquired_only as u8
     );
-    crate::number(rt, r.acquired_only as usize);
 }
 
-// Number and place.
-fn told(rt: &HostRuntime, a: SheetAnswer) {
-    match a {
-        SheetAnswer::Good => {
-            crate::two_zeros(rt);
-        }
-        SheetAnswer::Refused(x) => {
-            crate::refusal(rt, x);
-        }
-    }
+// Number, place and how many rows; and the sheet that was read, or none.
+fn told(rt: &HostRuntime, s: &[u8]) -> Sheet {
+    let read = sheet::read_sheet(s);
+    crate::told(rt, read.err());
+    let sheet = read.unwrap_or(no_sheet());
+    let _ = print!(rt; "{} ", sheet.count);
+    sheet
 }
 
 // Number, place, how many rows, and the first row.
 fn sheet(rt: &HostRuntime, s: &[u8]) {
-    let read = sheet::read_sheet(s);
-    let answer = read.answer;
-    told(rt, answer);
-    crate::number(rt, read.count);
-    let rows = read.rows;
+    let rows = told(rt, s).rows;
     row(rt, rows[0]);
     crate::end(rt);
 }
@@ -74,11 +86,7 @@ fn two_rows(rt: &HostRuntime, last: u8) {
     wire::put_part(&mut two, 0, &r, 0, 32);
     wire::put_part(&mut two, 32, &r, 0, 32);
     wire::put_byte(&mut two, 63, last);
-    let read = sheet::read_sheet(&two);
-    let answer = read.answer;
-    told(rt, answer);
-    crate::number(rt, read.count);
-    let rows = read.rows;
+    let rows = told(rt, &two).rows;
     row(rt, rows[1]);
     row(rt, rows[31]);
     crate::end(rt);
@@ -87,10 +95,9 @@ fn two_rows(rt: &HostRuntime, last: u8) {
 // Whether one of the first `count` rows of the sheet of R with this last byte grants package 1 of a message, at a time in nanoseconds.
 fn granted_in(rt: &HostRuntime, last: u8, count: usize, m: Source, time: u64) {
     let r = row_with(last);
-    let read = sheet::read_sheet(&r[0..32]);
-    let rows = read.rows;
-    crate::number(rt, sheet::in_sheet(rows, count, m, Pdid(1), time) as usize);
-    crate::end(rt);
+    let read = sheet::read_sheet(&r[0..32]).unwrap_or(no_sheet());
+    let granted = sheet::in_sheet(read.rows, count, m, Pdid(1), time);
+    let _ = println!(rt; "{} ", granted as u8);
 }
 
 // The same under R, of a message that is not simulated.
@@ -112,20 +119,14 @@ fn granted_by(rt: &HostRuntime, last: u8, simulated: bool) {
 }
 
 // Number, place, bytes, messages and packages.
-fn answer(rt: &HostRuntime, a: Answer) {
-    match a {
-        Answer::Totals(t) => {
-            crate::two_zeros(rt);
-            crate::number(rt, t.bytes);
-            crate::number(rt, t.messages);
-            crate::number(rt, t.packages);
-        }
-        Answer::Refused(x) => {
-            crate::refusal(rt, x);
-            crate::number(rt, 0);
-            crate::two_zeros(rt);
-        }
-    }
+fn answer(rt: &HostRuntime, a: Result<Totals, Refusal>) {
+    crate::told(rt, a.err());
+    let t = a.unwrap_or(Totals {
+        bytes: 0,
+        messages: 0,
+        packages: 0,
+    });
+    let _ = print!(rt; "{} {} {} ", t.bytes, t.messages, t.packages);
 }
 
 // What is measured; and what is written, with the buffer.

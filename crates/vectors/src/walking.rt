@@ -1,40 +1,20 @@
 // Steps of a package walk.
-use message::{Package, PackageRead};
+use message::Package;
+use refusal::Refusal;
 
-// Number, place, whether a package is shown, its id, L, status and delta.
-fn package(rt: &HostRuntime, p: Package) {
-    crate::two_zeros(rt);
-    crate::number(rt, 1);
-    crate::four(rt, p.id.0, p.length as u32, p.status as u32, p.delta);
-}
-
-// No package: all its numbers are zero.
-fn none(rt: &HostRuntime) {
-    crate::number(rt, 0);
-    crate::four(rt, 0, 0, 0, 0);
-}
-
-// What a step found: the package, or none.
-pub fn found(rt: &HostRuntime, step: PackageRead) {
-    match step {
-        PackageRead::Package(p) => {
-            package(rt, p);
-        }
-        PackageRead::End => {
-            crate::two_zeros(rt);
-            none(rt);
-        }
-        PackageRead::Refused(x) => {
-            crate::refusal(rt, x);
-            none(rt);
-        }
-    }
+// What a step found: number, place, whether a package is shown, its id, L, status and delta, which are zero where none is.
+pub fn found(rt: &HostRuntime, step: Result<Option<Package>, Refusal>) {
+    crate::told(rt, step.err());
+    let _ = match step {
+        Ok(Some(p)) => print!(rt; "1 {} {} {} {} ", p.id.0, p.length, p.status, p.delta),
+        _ => print!(rt; "0 0 0 0 0 "),
+    };
 }
 
 // What a step found, the walk's next place, and the data shown.
-pub fn shown(rt: &HostRuntime, step: PackageRead, next: usize, bytes: &[u8]) {
+pub fn shown(rt: &HostRuntime, step: Result<Option<Package>, Refusal>, next: usize, bytes: &[u8]) {
     found(rt, step);
-    crate::number(rt, next);
+    let _ = print!(rt; "{next} ");
     crate::show(rt, bytes);
 }
 
@@ -50,10 +30,11 @@ fn step(rt: &HostRuntime, run: &[u8], at: usize) {
 // The same with the length of the data in their place.
 fn long_step(rt: &HostRuntime, run: &[u8], at: usize) {
     found(rt, walk::step_at(run, at));
-    crate::number(rt, walk::next_at(run, at));
-    let data = walk::data_at(run, at);
-    crate::number(rt, data.len());
-    crate::end(rt);
+    let _ = println!(rt;
+        "{} {} ",
+        walk::next_at(run, at),
+        walk::data_at(run, at).len()
+    );
 }
 
 // A step of M's payload, with this word for the one with the first L.

@@ -1,25 +1,18 @@
 // Messages from their parts.
 ghost use Rattle.std.specs.Prelude.{◌≤◌};
 
-use compose::{Record, Written};
+use compose::Record;
 use message::Mdid;
-
-// Number, place and bytes of an answer.
-pub fn answer(rt: &HostRuntime, a: Written) {
-    match a {
-        Written::Done { bytes } => {
-            crate::two_zeros(rt);
-            crate::number(rt, bytes);
-        }
-        Written::Refused(x) => {
-            crate::refusal(rt, x);
-            crate::number(rt, 0);
-        }
-    }
-}
+use refusal::Refusal;
 
 // The writer, with message 7, number 5 and 100 s, as in M.
-fn write(flags: u8, nanos: u32, options: &[u8], packages: &[u8], out: &mut [u8]) -> Written {
+fn write(
+    flags: u8,
+    nanos: u32,
+    options: &[u8],
+    packages: &[u8],
+    out: &mut [u8],
+) -> Result<usize, Refusal> {
     let r = Record {
         flags,
         id: Mdid(7),
@@ -36,7 +29,7 @@ fn written(rt: &HostRuntime, flags: u8, nanos: u32, options: &[u8], packages: &[
 {
     let mut buffer = [0xEEu8; 68];
     let out = &mut buffer[0..room];
-    answer(rt, write(flags, nanos, options, packages, out));
+    crate::counted(rt, write(flags, nanos, options, packages, out));
     crate::show(rt, out);
 }
 

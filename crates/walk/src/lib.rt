@@ -7,10 +7,11 @@ ghost use Rattle.rules.specs.Walk.{package_at, data_at, start_at, next_at};
 ghost use Rattle.message.specs.Answers.{told_package, PartOf};
 ghost use Rattle.walk.specs.Steps as spec;
 
-use message::PackageRead;
+use message::Package;
+use refusal::Refusal;
 
 // What stands at a place of a run.
-pub fn step_at(s: &[u8], at: usize) -> PackageRead
+pub fn step_at(s: &[u8], at: usize) -> Result<Option<Package>, Refusal>
     ensures { told_package result ≡ package_at s.now at }
 {
     message::package_at(s, at)
@@ -21,13 +22,13 @@ pub fn data_at(s: &[u8], at: usize) -> &[u8]
     ensures { (result.now ≡ data_at s.now at) × PartOf s.entry (start_at s.now at) result }
 {
     match message::package_at(s, at) {
-        PackageRead::Package(k) => {
+        Ok(Some(k)) => {
             let a = k.from;
             let e = k.to;
             &s[a..e]
         }
-        PackageRead::End => &s[0..0],
-        PackageRead::Refused(_) => &s[0..0],
+        Ok(None) => &s[0..0],
+        Err(_) => &s[0..0],
     }
 }
 
@@ -36,9 +37,9 @@ pub fn next_at(s: &[u8], at: usize) -> usize
     ensures { result ≡ next_at s.now at }
 {
     match message::package_at(s, at) {
-        PackageRead::Package(k) => k.next,
-        PackageRead::End => at,
-        PackageRead::Refused(_) => at,
+        Ok(Some(k)) => k.next,
+        Ok(None) => at,
+        Err(_) => at,
     }
 }
 
@@ -53,7 +54,7 @@ pub struct Walk<'a> {
 #[derive(Clone, Copy)]
 pub struct Shown<'a> {
     pub walk: Walk<'a>,
-    pub step: PackageRead,
+    pub step: Result<Option<Package>, Refusal>,
     pub bytes: &'a [u8],
 }
 
@@ -77,7 +78,7 @@ pub fn next<'a>(w: Walk<'a>) -> Shown<'a>
 }
 
 // What the first step of a walk finds, of a plain slice.
-pub fn first(run: &[u8]) -> PackageRead
+pub fn first(run: &[u8]) -> Result<Option<Package>, Refusal>
     ensures { told_package result ≡ package_at run.now 0 }
 {
     let s = next(new(run));

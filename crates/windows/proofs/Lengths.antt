@@ -1,6 +1,6 @@
 -- Messages by their lengths alone: one, what the loop over them keeps, and those that pass.
 use Prim.Native.Nat.{ℕ, zero, suc, ◌+◌, ◌-◌, ◌≤◌, ◌<◌}
-use mathlib.Core.Path.{◌≡◌, refl, ap, sym, subst, ◌∙◌}
+use mathlib.Core.Path.{◌≡◌, refl, ap, sym, ◌∙◌}
 use mathlib.Core.Bool.{Bool, true, false}
 use mathlib.Core.Logic.{◌⊎◌, ⊎_elim}
 use mathlib.Core.List.{List, [], ◌∷◌, ◌++◌}
@@ -18,34 +18,32 @@ use Rattle.rules.proofs.Passed.{passes}
 use Rattle.rules.proofs.Alone.{head-append}
 use Rattle.rules.proofs.Loops.{Doing, doing_start, doing_next, doing_end, doing_bad}
 use Rattle.windows.specs.Window.{extent, end_by, whole_bytes}
-use Rattle.windows.specs.Told.{Extends}
+use Rattle.std.specs.Prelude.{Some, None}
+use Rattle.windows.specs.Told.{Whole, Extends}
 
 -- ---- one message
 
 module _ (s : List ℕ) where
-  none-whole : ((p : ℕ) → (n : ℕ) × (extent p s ≡ bad n p)) → Extends s 0
-  none-whole h = record { most = omega arith; none = λ z. h; some = λ z. absurd (z refl) }
-
-  pub extends_short : length s < 24 → Extends s 0
+  pub extends_short : length s < 24 → Extends s None
   unfolding extent
-  extends_short l = none-whole (λ p. (SHORT, halt _ _ _ _ (lt-ltb (length s) 24 l)))
+  extends_short l p = (SHORT, halt _ _ _ _ (lt-ltb (length s) 24 l))
 
   module _ (long : 24 ≤ length s) where
-    pub extends_low : word s 12 < 24 → Extends s 0
+    pub extends_low : word s 12 < 24 → Extends s None
     unfolding extent head
-    extends_low l = none-whole (λ p. (LENGTH, pass _ _ _ _ (le-ltb (length s) 24 long) (halt _ _ _ _ (lt-ltb (word s 12) 24 l))))
+    extends_low l p = (LENGTH, pass _ _ _ _ (le-ltb (length s) 24 long) (halt _ _ _ _ (lt-ltb (word s 12) 24 l)))
 
     module _ (least : 24 ≤ word s 12) where
-      pub extends_cut : length s < word s 12 → Extends s 0
+      pub extends_cut : length s < word s 12 → Extends s None
       unfolding extent head
-      extends_cut l = none-whole (λ p. (CUT, pass _ _ _ _ (le-ltb (length s) 24 long) (pass _ _ _ _ (le-ltb (word s 12) 24 least) (halt _ _ _ _ (lt-ltb (length s) (word s 12) l)))))
+      extends_cut l p = (CUT, pass _ _ _ _ (le-ltb (length s) 24 long) (pass _ _ _ _ (le-ltb (word s 12) 24 least) (halt _ _ _ _ (lt-ltb (length s) (word s 12) l))))
 
-      pub extends_whole : word s 12 ≤ length s → Extends s (word s 12)
+      pub extends_whole : word s 12 ≤ length s → Extends s (Some (word s 12))
       unfolding extent head
       extends_whole l = record {
+        least = omega arith;
         most = l;
-        none = λ z. absurd (omega arith);
-        some = λ z p. pass _ _ _ _ (le-ltb (length s) 24 long) (pass _ _ _ _ (le-ltb (word s 12) 24 least) (pass _ _ _ _ (le-ltb (length s) (word s 12) l) refl));
+        reads = λ p. pass _ _ _ _ (le-ltb (length s) 24 long) (pass _ _ _ _ (le-ltb (word s 12) 24 least) (pass _ _ _ _ (le-ltb (length s) (word s 12) l) refl));
       }
 
 -- ---- the loop over a window
@@ -59,29 +57,29 @@ pub lengths-start : (window : List ℕ) → Lengths window 0
 lengths-start window = record { done = []; doing = doing_start extent window; inside = omega arith }
 
 module _ (window : List ℕ) (k : ℕ) (inv : Lengths window k) where
-  pub lengths-end : length window ≤ k → (k ≡ whole_bytes window) × (k ≤ length window)
+  -- the bytes behind them
+  behind : take (length window - k) (drop k window) ≡ drop k window
+  behind = take_all (length window - k) (drop k window) (omega (arith, length-drop k window))
+
+  pub lengths-end : Extends (take (length window - k) (drop k window)) None → (k ≡ whole_bytes window) × (k ≤ length window)
   unfolding whole_bytes end_by
-  lengths-end l = (
-    omega (arith, inv.inside, ap (end_by (length window)) (doing_end extent window inv.done k inv.doing l)),
-    inv.inside,
-  )
+  lengths-end e = (go (ltb k (length window)) refl, inv.inside)
+    where
+      go : (b : Bool) → ltb k (length window) ≡ b → k ≡ whole_bytes window
+      go true t = let (n, f) = (rw behind at e) k in sym (ap (end_by (length window)) (doing_bad extent window inv.done k inv.doing (ltb-true _ _ t) f))
+      go false t =
+          let l = ltb-false k (length window) t in
+          omega (arith, inv.inside, ap (end_by (length window)) (doing_end extent window inv.done k inv.doing l))
 
-  module _ (l : k < length window) (r : ℕ) (e : Extends (take (length window - k) (drop k window)) r) where
-    here : Extends (drop k window) r
-    here = subst (λ (s : List ℕ). Extends s r) (take_all (length window - k) (drop k window) (omega (arith, length-drop k window))) e
-
-    pub lengths_stop : r ≡ 0 → (k ≡ whole_bytes window) × (k ≤ length window)
-    unfolding whole_bytes end_by
-    lengths_stop z =
-        let (n, b) = here.none z k in
-        (sym (ap (end_by (length window)) (doing_bad extent window inv.done k inv.doing l b)), inv.inside)
-
-    pub lengths-next : (r ≡ 0 → ⊥) → Lengths window (k + r)
-    lengths-next h = record {
-      done = inv.done ++ (tt ∷ []);
-      doing = doing_next extent window inv.done k tt r inv.doing l (omega arith) (here.some h k);
-      inside = omega (arith, here.most, length-drop k window);
-    }
+  module _ (r : ℕ) (e : Whole (take (length window - k) (drop k window)) r) where
+    pub lengths-next : Lengths window (k + r)
+    lengths-next =
+        let w : Whole (drop k window) r = rw behind at e in
+        record {
+          done = inv.done ++ (tt ∷ []);
+          doing = doing_next extent window inv.done k tt r inv.doing (omega (arith, w.least, w.most, length-drop k window)) w.least (w.reads k);
+          inside = omega (arith, w.most, length-drop k window);
+        }
 
 -- ---- messages that pass
 
@@ -103,11 +101,11 @@ extent_of p s t m n e =
 -- bytes that are no whole message
 cut-here : (p : ℕ) (s : List ℕ) → length s < (head s).size → (b : Bool) → ltb (length s) 24 ≡ b → (n : ℕ) × (extent p s ≡ bad n p)
 unfolding head
-cut-here p s l true e = (extends_short s (ltb-true (length s) 24 e)).none refl p
-cut-here p s l false e = (extends_cut s (ltb-false (length s) 24 e) (omega (arith, l, ltb-false (length s) 24 e)) l).none refl p
+cut-here p s l true e = extends_short s (ltb-true (length s) 24 e) p
+cut-here p s l false e = extends_cut s (ltb-false (length s) 24 e) (omega (arith, l, ltb-false (length s) 24 e)) l p
 
 begun : (p : ℕ) (s : List ℕ) → (length s < 24) ⊎ (length s < (head s).size) → (n : ℕ) × (extent p s ≡ bad n p)
-begun p s b = ⊎_elim (λ l. (extends_short s l).none refl p) (λ l. cut-here p s l (ltb (length s) 24) refl) b
+begun p s b = ⊎_elim (λ l. extends_short s l p) (λ l. cut-here p s l (ltb (length s) 24) refl) b
 
 end-front : (size : ℕ) (o : Outcome (List (Unit {0}))) → end_by size (tt ∷> o) ≡ end_by size o
 unfolding end_by ◌∷>◌

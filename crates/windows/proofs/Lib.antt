@@ -4,4 +4,3 @@ pub mod Worked
 pub mod Lengths
 pub mod Claims
 pub mod Handing
-pub mod Same

@@ -1,6 +1,6 @@
 -- `burst::open_burst` meets its contract: each answer with the tests that led to it.
 use Prim.Native.Nat.{ℕ, ◌+◌, ◌*◌, ◌≤◌}
-use mathlib.Core.Path.{◌≡◌, ap, sym, ◌∙◌}
+use mathlib.Core.Path.{◌≡◌, sym, ◌∙◌}
 use mathlib.Core.Bool.{true}
 use mathlib.Core.Logic.{◌↔◌}
 use mathlib.Core.List.{List, ◌++◌}
@@ -10,10 +10,8 @@ use Rattle.rules.specs.Outcome.{good}
 use Rattle.rules.specs.Bytes.{Bytes}
 use Rattle.rules.specs.Burst.{marker, marked, block_size, most_blocks, blocks_fit, randomized, opening}
 use Rattle.rules.proofs.Claims.{premises_met, burst_is}
-use Rattle.burst.specs.declared.Opened.{Opened}
-use Rattle.burst.specs.Told.{told_opened}
 use Rattle.burst.proofs.Buffer.{behind}
-use Rattle.burst.proofs.Answers.{opener-large, opener-marker, opener-blocks, opener-done, room}
+use Rattle.burst.proofs.Answers.{opener-large, opener-marker, opener-blocks, opener-done}
 use Rattle.burst.proofs.open_burst.Goals as goal
 use Rattle.burst.proofs.open_burst.Goals.{After-blocks_fit-whole, After-slice_known-1, Else-not-begun, Else-not-whole}
 
@@ -26,36 +24,25 @@ begins c =
     let m = c.is_marked-begun in
     sym m.ensures ∙ c.if-not-begun.false
 
-marker-in : (c : Else-not-begun) → 8 ≤ length (S (goal.at.Else-not-begun c).After-blocks_fit-whole)
-marker-in c = room (S (goal.at.Else-not-begun c).After-blocks_fit-whole) (begins c)
-
 whole : (c : Else-not-whole) → blocks_fit (length (S (goal.at.Else-not-whole c).After-blocks_fit-whole)) ≡ true
 whole c =
     let b = c.blocks_fit-whole in
     sym b.ensures ∙ c.if-not-whole.false
 
 pub returns-then-n-gt65536 : goal.returns-then-n-gt65536
-returns-then-n-gt65536 c =
-    let s = S (goal.at.returns-then-n-gt65536 c).After-blocks_fit-whole in
-    ap (λ (a : Opened). told_opened a s) c.refuse_with.ensures ∙ opener-large s c.if-n-gt65536.true
+returns-then-n-gt65536 c = rw c.refuse.ensures (opener-large (S (goal.at.returns-then-n-gt65536 c).After-blocks_fit-whole) c.if-n-gt65536.true)
 
 pub returns-then-not-begun : goal.returns-then-not-begun
 returns-then-not-begun c =
     let m = c.is_marked-begun in
-    ap (λ (a : Opened). told_opened a (S (goal.at.returns-then-not-begun c).After-blocks_fit-whole)) c.refuse_with-then-not-begun.ensures
-    ∙ opener-marker (S (goal.at.returns-then-not-begun c).After-blocks_fit-whole) c.if-n-gt65536.false (sym m.ensures ∙ c.if-not-begun.true)
+    rw c.refuse-then-not-begun.ensures
+    (opener-marker (S (goal.at.returns-then-not-begun c).After-blocks_fit-whole) c.if-n-gt65536.false (sym m.ensures ∙ c.if-not-begun.true))
 
 pub returns-then-not-whole : goal.returns-then-not-whole
 returns-then-not-whole c =
     let b = c.blocks_fit-whole in
-    ap (λ (a : Opened). told_opened a (S (goal.at.returns-then-not-whole c).After-blocks_fit-whole)) c.refuse_with-then-not-whole.ensures
-    ∙ opener-blocks (S (goal.at.returns-then-not-whole c).After-blocks_fit-whole) c.if-n-gt65536.false (cc) (sym b.ensures ∙ c.if-not-whole.true)
-
-pub slice_bounds-randomize_all-count : goal.slice_bounds-randomize_all-count
-slice_bounds-randomize_all-count c = omega (arith, marker-in (goal.at.slice_bounds-randomize_all-count c).Else-not-begun)
-
-pub slice_bounds-randomize_all-start : goal.slice_bounds-randomize_all-start
-slice_bounds-randomize_all-start c = omega (arith, marker-in (goal.at.slice_bounds-randomize_all-start c).Else-not-begun)
+    rw c.refuse-then-not-whole.ensures
+    (opener-blocks (S (goal.at.returns-then-not-whole c).After-blocks_fit-whole) c.if-n-gt65536.false (cc) (sym b.ensures ∙ c.if-not-whole.true))
 
 pub returns : goal.returns
 returns c =

@@ -3,7 +3,7 @@ use Rattle.burst.proofs.Answers.{randomizer-large, randomizer-done}
 use Rattle.burst.proofs.randomize.Goals as goal
 
 pub returns-then-buf-gt65536 : goal.returns-then-buf-gt65536
-returns-then-buf-gt65536 c = randomizer-large c.args.buf.now c.if-buf-gt65536.true
+returns-then-buf-gt65536 c = rw c.refuse.ensures (randomizer-large c.args.buf.now c.if-buf-gt65536.true)
 
 pub returns : goal.returns
 returns c =

@@ -11,20 +11,8 @@ returns-then-part-lt1 c = few-none _ c.requires.table_value _ c.if-part-lt1.true
 pub returns-then-part-lt2 : goal.returns-then-part-lt2
 returns-then-part-lt2 c = few-one _ c.requires.table_value _ (omega (arith, length-set c.args.part.now 0 (get_or c.args.part.now 0 0 xor get_or c.args.table.now 0 0), c.if-part-lt2.true, c.if-part-lt1.false))
 
-pub bounds-part-1 : goal.bounds-part-1
-bounds-part-1 c = omega (arith, c.if-part-lt2.false)
-
-pub bounds-part-1-2 : goal.bounds-part-1-2
-bounds-part-1-2 c = omega (arith, c.if-part-lt2.false)
-
 pub returns-then-part-lt3 : goal.returns-then-part-lt3
 returns-then-part-lt3 c = few-two _ c.requires.table_value _ (omega (arith, length-set c.args.part.now 0 (get_or c.args.part.now 0 0 xor get_or c.args.table.now 0 0), length-set (set c.args.part.now 0 (get_or c.args.part.now 0 0 xor get_or c.args.table.now 0 0)) 1 (get_or (set c.args.part.now 0 (get_or c.args.part.now 0 0 xor get_or c.args.table.now 0 0)) 1 0 xor get_or c.args.table.now 1 0), c.if-part-lt3.true, c.if-part-lt2.false))
-
-pub bounds-part-2 : goal.bounds-part-2
-bounds-part-2 c = omega (arith, c.if-part-lt3.false)
-
-pub bounds-part-2-2 : goal.bounds-part-2-2
-bounds-part-2-2 c = omega (arith, c.if-part-lt3.false)
 
 pub returns : goal.returns
 returns c = few-three _ c.requires.table_value _ (omega (arith, length-set c.args.part.now 0 (get_or c.args.part.now 0 0 xor get_or c.args.table.now 0 0), length-set (set c.args.part.now 0 (get_or c.args.part.now 0 0 xor get_or c.args.table.now 0 0)) 1 (get_or (set c.args.part.now 0 (get_or c.args.part.now 0 0 xor get_or c.args.table.now 0 0)) 1 0 xor get_or c.args.table.now 1 0), c.if-part-lt3.false, c.requires.part_len_bound))

@@ -1,30 +1,28 @@
 -- `capture::read_capture` meets its contract: a law for each answer.
-use mathlib.Core.Path.{ap, sym, ◌∙◌}
-use Rattle.capture.specs.Told.{told_measured}
-use Rattle.capture.proofs.Measuring.{sized, read-refused, read-no_room, few, read_done}
+use Rattle.refusal.proofs.Numbers.{passed_on}
+use Rattle.capture.proofs.Measuring.{Sized, sized, read-refused, read-no_room, few, read_done}
 use borrow.Author.Rules.{rules}
 use Rattle.capture.proofs.read_capture.Goals as goal
+use Rattle.capture.proofs.read_capture.Goals.{In_ok-counts}
 
-pub returns-then-out-t : goal.returns-then-out-t
-returns-then-out-t c =
+-- what was measured
+known : (c : In_ok-counts) → Sized c.args.file.now c.args.port c.in_ok-counts.counts
+known c = sized _ _ _ c.in_ok-counts.ensures.0
+
+pub returns-in_err-counts : goal.returns-in_err-counts
+returns-in_err-counts c = let a = c.args in rw (passed_on _ _ c.from_residual.ensures.1) (read-refused a.file.now a.port a.out.now _ _ c.in_err-counts.ensures.0)
+
+pub returns-then-out-counts : goal.returns-then-out-counts
+returns-then-out-counts c =
     let a = c.args in
-    let m = c.measure.ensures in
-    let s = sized a.file.now a.port c.in-Fits.t (ap told_measured (sym c.in-Fits.is) ∙ m.0) in
-    read-no_room a.file.now a.port a.out.now c.in-Fits.t s (search rules)
+    rw c.refuse.ensures (read-no_room a.file.now a.port a.out.now _ (known (goal.at.returns-then-out-counts c).In_ok-counts) (search rules))
 
 pub store-requires : goal.store-requires
 store-requires c =
     let a = c.args in
-    let m = c.measure.ensures in
-    let s = sized a.file.now a.port c.in-Fits.t (ap told_measured (sym c.in-Fits.is) ∙ m.0) in
-    few a.file.now a.port a.out.now c.in-Fits.t s _ m.1
+    few a.file.now a.port a.out.now _ (known (goal.at.store-requires c).In_ok-counts) _ c.in_ok-counts.ensures.1
 
-pub returns-in-Refused : goal.returns-in-Refused
-returns-in-Refused c = let a = c.args in read-refused a.file.now a.port a.out.now _ _ (ap told_measured (sym c.in-Refused.is) ∙ c.measure.ensures.0)
-
-pub returns-else-out-t : goal.returns-else-out-t
-returns-else-out-t c =
+pub returns : goal.returns
+returns c =
     let a = c.args in
-    let m = c.measure.ensures in
-    let s = sized a.file.now a.port c.in-Fits.t (ap told_measured (sym c.in-Fits.is) ∙ m.0) in
-    read_done a.file.now a.port a.out.now c.in-Fits.t s _ m.1 _ (search rules) c.store.ensures
+    read_done a.file.now a.port a.out.now _ (known (goal.at.returns c).In_ok-counts) _ c.in_ok-counts.ensures.1 _ (search rules) c.store.ensures

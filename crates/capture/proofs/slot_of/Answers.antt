@@ -6,8 +6,8 @@ use Rattle.capture.proofs.slot_of.Goals as goal
 pub returns-then-s-lt16 : goal.returns-then-s-lt16
 returns-then-s-lt16 c = slot_short _ _ (search rules)
 
-pub returns-then-s-end : goal.returns-then-s-end
-returns-then-s-end c = slot_cut _ _ (search rules) _ c.word_in.ensures (search rules)
+pub returns-then-s-size : goal.returns-then-s-size
+returns-then-s-size c = slot_cut _ _ (search rules) _ c.word_in.ensures (search rules)
 
 pub returns : goal.returns
-returns c = slot_whole _ _ (search rules) _ c.word_in.ensures (search rules) _ c.word_in-2.ensures
+returns c = slot_whole _ _ (search rules) _ c.word_in.ensures (search rules) _ c.word_in-original.ensures

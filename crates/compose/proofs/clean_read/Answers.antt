@@ -7,7 +7,7 @@ use Rattle.rules.specs.Outcome.{good}
 use Rattle.rules.specs.Bytes.{Bytes}
 use Rattle.message.specs.Answers.{spot_of_message, front_at, told_header}
 use Rattle.message.specs.declared.Header.{Header}
-use Rattle.message.specs.declared.HeaderRead.TheVariants as header
+use Rattle.std.specs.Prelude.{Ok}
 use Rattle.message.proofs.Fronts.{Fronted, fronted}
 use Rattle.rules.specs.Reading.{MessageSpot, message_at}
 use Rattle.rules.proofs.Claims.{premises_met}
@@ -22,7 +22,7 @@ S c = c.args.s.now
 abbrev H : After-shared_slice_known-1 → Header
 H c = c.args.h
 
-front-told : (c : After-shared_slice_known-1) → told_header (header.Header (H c)) ≡ front_at (S c) 0
+front-told : (c : After-shared_slice_known-1) → told_header (Ok (H c)) ≡ front_at (S c) 0
 front-told c = c.requires
 
 places : (c : After-shared_slice_known-1) → Fronted (S c) 0 (H c)
@@ -45,57 +45,51 @@ read : (c : Else-miscounts) → Read (S (goal.at.Else-miscounts c).After-shared_
 read c = reads (S (goal.at.Else-miscounts c).After-shared_slice_known-1) (K c) (bytes (goal.at.Else-miscounts c).After-shared_slice_known-1) (read_told c)
 
 pub overflow_add-end : goal.overflow_add-end
-overflow_add-end c = let p = places (goal.at.overflow_add-end c).After-shared_slice_known-1 in omega (arith, p.whole, p.within, p.forth, p.behind, p.run, p.long, p.small)
+overflow_add-end c = omega (arith, places (goal.at.overflow_add-end c).After-shared_slice_known-1)
 
 pub slice_bounds-walk-count : goal.slice_bounds-walk-count
-slice_bounds-walk-count c = let p = places (goal.at.slice_bounds-walk-count c).After-shared_slice_known-1 in omega (arith, p.whole, p.within, p.forth, p.behind, p.run, p.long, p.small)
+slice_bounds-walk-count c = omega (arith, places (goal.at.slice_bounds-walk-count c).After-shared_slice_known-1)
 
 pub slice_bounds-walk-start : goal.slice_bounds-walk-start
-slice_bounds-walk-start c = let p = places (goal.at.slice_bounds-walk-start c).After-shared_slice_known-1 in omega (arith, p.whole, p.within, p.forth, p.behind, p.run, p.long, p.small)
+slice_bounds-walk-start c = omega (arith, places (goal.at.slice_bounds-walk-start c).After-shared_slice_known-1)
 
 pub slice_bounds-walk-end : goal.slice_bounds-walk-end
-slice_bounds-walk-end c = let p = places (goal.at.slice_bounds-walk-end c).After-shared_slice_known-1 in omega (arith, p.whole, p.within, p.forth, p.behind, p.run, p.long, p.small)
+slice_bounds-walk-end c = omega (arith, places (goal.at.slice_bounds-walk-end c).After-shared_slice_known-1)
 
 pub walk-w-requires : goal.walk-w-requires
 walk-w-requires c = payload-small (S (goal.at.walk-w-requires c).After-shared_slice_known-1) (H (goal.at.walk-w-requires c).After-shared_slice_known-1) (front-told (goal.at.walk-w-requires c).After-shared_slice_known-1)
 
 pub overflow_sub-next : goal.overflow_sub-next
-overflow_sub-next c = let p = places (goal.at.overflow_sub-next c).After-shared_slice_known-1 in omega (arith, p.whole, p.within, p.forth, p.behind, p.run, p.long, p.small)
+overflow_sub-next c = omega (arith, places (goal.at.overflow_sub-next c).After-shared_slice_known-1)
 
 pub returns-then-w-next : goal.returns-then-w-next
 returns-then-w-next c =
-    clean-refused (S (goal.at.returns-then-w-next c).After-shared_slice_known-1) c.args.out.now (package_refused (S (goal.at.returns-then-w-next c).After-shared_slice_known-1) (H (goal.at.returns-then-w-next c).After-shared_slice_known-1) (front-told (goal.at.returns-then-w-next c).After-shared_slice_known-1) c.walk-w.result c.walk-w.ensures (omega arith))
+    rw c.refuse.ensures (clean-refused (S (goal.at.returns-then-w-next c).After-shared_slice_known-1) c.args.out.now (package_refused (S (goal.at.returns-then-w-next c).After-shared_slice_known-1) (H (goal.at.returns-then-w-next c).After-shared_slice_known-1) (front-told (goal.at.returns-then-w-next c).After-shared_slice_known-1) c.walk-w.result c.walk-w.ensures (omega arith)))
 
 pub slice_bounds-miscounts-end : goal.slice_bounds-miscounts-end
-slice_bounds-miscounts-end c = let p = places (goal.at.slice_bounds-miscounts-end c).After-shared_slice_known-1 in omega (arith, p.whole, p.within, p.forth, p.behind, p.run, p.long, p.small)
+slice_bounds-miscounts-end c = omega (arith, places (goal.at.slice_bounds-miscounts-end c).After-shared_slice_known-1)
 
 pub returns-then-miscounts : goal.returns-then-miscounts
 returns-then-miscounts c =
-    clean-refused (S (goal.at.returns-then-miscounts c).After-shared_slice_known-1) c.args.out.now (count-refused (S (goal.at.returns-then-miscounts c).After-shared_slice_known-1) (H (goal.at.returns-then-miscounts c).After-shared_slice_known-1) (front-told (goal.at.returns-then-miscounts c).After-shared_slice_known-1) c.walk-w.result c.walk-w.ensures (omega arith) (sym c.miscounts.ensures ∙ c.if-miscounts.true))
+    rw c.refuse-then-miscounts.ensures (clean-refused (S (goal.at.returns-then-miscounts c).After-shared_slice_known-1) c.args.out.now (count-refused (S (goal.at.returns-then-miscounts c).After-shared_slice_known-1) (H (goal.at.returns-then-miscounts c).After-shared_slice_known-1) (front-told (goal.at.returns-then-miscounts c).After-shared_slice_known-1) c.walk-w.result c.walk-w.ensures (omega arith) (sym c.miscounts.ensures ∙ c.if-miscounts.true)))
 
 pub round_up-requires : goal.round_up-requires
-round_up-requires c = let w = read (c) in omega (arith, w.short, w.run, w.inside, w.fore, w.least, w.most, w.payload, w.small)
-
-pub overflow_add-n : goal.overflow_add-n
-overflow_add-n c = let w = read (goal.at.overflow_add-n c).Else-miscounts in omega (arith, w.short, w.run, w.inside, w.fore, w.least, w.most, w.payload, w.small)
+round_up-requires c = omega (arith, read (c))
 
 pub overflow_sub-n : goal.overflow_sub-n
-overflow_sub-n c = let w = read (goal.at.overflow_sub-n c).Else-miscounts in omega (arith, w.short, w.run, w.inside, w.fore, w.least, w.most, w.payload, w.small)
-
-pub overflow_add-n-2 : goal.overflow_add-n-2
-overflow_add-n-2 c = let w = read (goal.at.overflow_add-n-2 c).Else-miscounts in omega (arith, w.short, w.run, w.inside, w.fore, w.least, w.most, w.payload, w.small)
+overflow_sub-n c = omega (arith, read (goal.at.overflow_sub-n c).Else-miscounts)
 
 pub slice_bounds-finish-end : goal.slice_bounds-finish-end
-slice_bounds-finish-end c = let w = read (goal.at.slice_bounds-finish-end c).Else-miscounts in omega (arith, w.short, w.run, w.inside, w.fore, w.least, w.most, w.payload, w.small)
+slice_bounds-finish-end c = omega (arith, read (goal.at.slice_bounds-finish-end c).Else-miscounts)
 
 pub slice_bounds-finish-count-2 : goal.slice_bounds-finish-count-2
-slice_bounds-finish-count-2 c = let w = read (goal.at.slice_bounds-finish-count-2 c).Else-miscounts in omega (arith, w.short, w.run, w.inside, w.fore, w.least, w.most, w.payload, w.small)
+slice_bounds-finish-count-2 c = omega (arith, read (goal.at.slice_bounds-finish-count-2 c).Else-miscounts)
 
 pub slice_bounds-finish-start-2 : goal.slice_bounds-finish-start-2
-slice_bounds-finish-start-2 c = let w = read (goal.at.slice_bounds-finish-start-2 c).Else-miscounts in omega (arith, w.short, w.run, w.inside, w.fore, w.least, w.most, w.payload, w.small)
+slice_bounds-finish-start-2 c = omega (arith, read (goal.at.slice_bounds-finish-start-2 c).Else-miscounts)
 
 pub slice_bounds-finish-end-2 : goal.slice_bounds-finish-end-2
-slice_bounds-finish-end-2 c = let w = read (goal.at.slice_bounds-finish-end-2 c).Else-miscounts in omega (arith, w.short, w.run, w.inside, w.fore, w.least, w.most, w.payload, w.small)
+slice_bounds-finish-end-2 c = omega (arith, read (goal.at.slice_bounds-finish-end-2 c).Else-miscounts)
 
 pub finish-requires : goal.finish-requires
 finish-requires c =

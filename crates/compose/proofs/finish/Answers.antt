@@ -7,7 +7,7 @@ use Rattle.compose.proofs.finish.Goals as goal
 
 pub returns-then-out-n : goal.returns-then-out-n
 returns-then-out-n c =
-    roomless (draft_of c.args.r c.args.options.now c.args.packages.now) c.args.out.now c.requires.fit (omega arith)
+    rw c.refuse.ensures (roomless (draft_of c.args.r c.args.options.now c.args.packages.now) c.args.out.now c.requires.fit (omega arith))
 
 pub store-requires : goal.store-requires
 store-requires c =

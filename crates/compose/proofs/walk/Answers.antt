@@ -8,11 +8,11 @@ use Rattle.rules.proofs.Cut as Cut
 use Rattle.rules.proofs.Numbers.{half-drop}
 use Rattle.compose.proofs.Walking.{Walking, walk_start, walk_ended, walk_stopped, walk_same, walk_border}
 use Rattle.compose.proofs.walk.Goals as goal
-use Rattle.compose.proofs.walk.Goals.{then-i-half, else-i-half, After-wide16-l, Else-left-n}
+use Rattle.compose.proofs.walk.Goals.{then-i-half, else-i-half, After-half_at-l, Else-left-n}
 
 -- the length that was read, and that of the package
-wide : (c : After-wide16-l) → c.wide16-l.result ≡ half (drop c.loop-i.i c.args.run.now) 4
-wide c = c.wide16-l.ensures.0 ∙ c.half_at.ensures ∙ sym (half-drop _ _ 4)
+long : (c : After-half_at-l) → c.half_at-l.result ≡ half (drop c.loop-i.i c.args.run.now) 4
+long c = c.half_at-l.ensures ∙ sym (half-drop _ _ 4)
 
 pub loop-i-init : goal.loop-i-init
 loop-i-init c = walk_start c.args.run.now
@@ -28,15 +28,15 @@ overflow_add-i c = omega (arith, c.requires)
 pub returns-then-l-lt12 : goal.returns-then-l-lt12
 returns-then-l-lt12 c =
     let l = c.loop-i in
-    walk_stopped c.args.run.now l.i l.all l.mid l.invariant (omega arith) (λ f. omega (arith, f.least, wide (goal.at.returns-then-l-lt12 c).After-wide16-l))
+    walk_stopped c.args.run.now l.i l.all l.mid l.invariant (omega arith) (λ f. omega (arith, f.least, long (goal.at.returns-then-l-lt12 c).After-half_at-l))
 
 pub round_up-n-requires : goal.round_up-n-requires
-round_up-n-requires c = omega (arith, c.wide16-l.ensures.1)
+round_up-n-requires c = omega arith
 
 pub returns-then-left-n : goal.returns-then-left-n
 returns-then-left-n c =
     let l = c.loop-i in
-    walk_stopped c.args.run.now l.i l.all l.mid l.invariant (omega arith) (λ f. omega (arith, f.room, wide (goal.at.returns-then-left-n c).After-wide16-l, c.round_up-n.ensures, length-drop l.i c.args.run.now))
+    walk_stopped c.args.run.now l.i l.all l.mid l.invariant (omega arith) (λ f. omega (arith, f.room, long (goal.at.returns-then-left-n c).After-half_at-l, c.round_up-n.ensures, length-drop l.i c.args.run.now))
 
 pub overflow_add-mid : goal.overflow_add-mid
 overflow_add-mid c = omega (arith, c.requires)
@@ -57,14 +57,14 @@ fit : (c : Else-left-n) → Cut.Fit (drop c.loop-i.i c.args.run.now)
 fit c =
     let l = c.loop-i in
     let d = length-drop l.i c.args.run.now in
-    let x = wide (goal.at.Else-left-n c).After-wide16-l in
+    let x = long (goal.at.Else-left-n c).After-half_at-l in
     record { header = omega (arith, d); least = omega (arith, x); room = omega (arith, d, x, c.round_up-n.ensures) }
 
 pub loop-i-preserved : goal.loop-i-preserved
 loop-i-preserved c =
     let l = c.loop-i in
     let f = fit (goal.at.loop-i-preserved c).Else-left-n in
-    let g = c.round_up-n.ensures ∙ ap pad (wide (goal.at.loop-i-preserved c).After-wide16-l) in
+    let g = c.round_up-n.ensures ∙ ap pad (long (goal.at.loop-i-preserved c).After-half_at-l) in
     elim c.if-i-half.branch [
       | then-i-half x ↦ subst (λ (y : ℕ). Walking c.args.run.now (l.i + c.round_up-n.result) (l.all + 1) y) (sym x.mid-is) (walk_border c.args.run.now l.i l.all l.mid l.invariant (omega arith) f g)
       | else-i-half x ↦ subst (λ (y : ℕ). Walking c.args.run.now (l.i + c.round_up-n.result) (l.all + 1) y) (sym x.mid-is) (walk_same c.args.run.now l.i l.all l.mid l.invariant (omega arith) f g)

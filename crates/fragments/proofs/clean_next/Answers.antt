@@ -8,7 +8,7 @@ pub slice_bounds-clean_package-end : goal.slice_bounds-clean_package-end
 slice_bounds-clean_package-end c = omega (arith, fits-inside c.args.run.now c.args.i c.requires.i_in_bounds.0 c.requires.run_value, rest-half c.args.run.now c.args.i)
 
 pub clean_package-requires : goal.clean_package-requires
-clean_package-requires c = piece-here c.args.run.now c.args.i c.requires.run_value c.half_at.ensures c.wide16.ensures.0 c.round_up.ensures
+clean_package-requires c = piece-here c.args.run.now c.args.i c.requires.run_value c.half_at.ensures c.round_up.ensures
 
 pub returns : goal.returns
-returns c = cleaned-at c.args.run.now c.clean_package.new.c c.args.i c.half_at.ensures c.wide16.ensures.0 c.round_up.ensures c.clean_package.ensures
+returns c = cleaned-at c.args.run.now c.clean_package.new.c c.args.i c.half_at.ensures c.round_up.ensures c.clean_package.ensures

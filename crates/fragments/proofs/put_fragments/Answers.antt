@@ -1,5 +1,5 @@
 -- `fragments::put_fragments` meets its contract: in the loop the fragments before `at` are stored, and the payloads of the others stand from `from` on.
-use mathlib.Core.Path.{◌∙◌}
+use mathlib.Core.Path.{refl, ◌∙◌}
 use native.Mathlib.Omega.{arith}
 use Rattle.fragments.specs.Stored.{whole_by}
 use Rattle.fragments.proofs.Distributing.{behind, ended}
@@ -28,31 +28,31 @@ pub overflow_add-from : goal.overflow_add-from
 overflow_add-from c = omega (arith, c.requires.cuttable.more, c.requires.cuttable.most)
 
 pub loop-from-init : goal.loop-from-init
-loop-from-init c = let a = c.args in begun_at a.r a.options.now a.packages.now a.size c.requires.cuttable a.n c.requires.n_value.0 a.out.now c.requires.n_value.1 _ c.put_clean.ensures _ c.put_first.ensures c.round_up.ensures c.next_number-q.ensures
+loop-from-init c = let a = c.args in begun_at a.r a.options.now a.packages.now a.size c.requires.cuttable a.n c.requires.n_value.0 a.out.now c.requires.n_value.1 _ c.put_clean.ensures _ c.put_first.ensures c.round_up.ensures refl
 
 pub overflow_add-from-in-loop-from : goal.overflow_add-from-in-loop-from
-overflow_add-from-in-loop-from c = omega (arith, c.least-m.ensures)
+overflow_add-from-in-loop-from c = omega (arith, c.min-m.ensures)
 
 pub overflow_sub-from : goal.overflow_sub-from
 overflow_sub-from c = let a = c.args in let l = c.loop-from in omega (arith, l.invariant.place, pay_length a.r a.options.now a.packages.now a.size c.requires.cuttable)
 
 pub put_at-requires : goal.put_at-requires
-put_at-requires c = let a = c.args in let l = c.loop-from in let m = c.least-m.ensures in record { movable = record { flags = flags-room a.r.flags _ c.requires.cuttable.flags c.requires.cuttable.small c.bits_at-bits.ensures.1; behind = behind (whole_by a.r a.options.now a.packages.now) a.size a.n (omega (arith, c.requires.cuttable.least)) _ l.out l.at l.from l.q l.invariant (omega arith); inside = omega (arith, m, l.invariant.long, l.invariant.fits); short = omega (arith, m, c.requires.cuttable.more, c.requires.cuttable.most) }; bits_bound = (c.bits_at-bits.ensures.1, omega arith) }
+put_at-requires c = let a = c.args in let l = c.loop-from in let m = c.min-m.ensures in record { movable = record { flags = flags-room a.r.flags _ c.requires.cuttable.flags c.requires.cuttable.small c.bits_at-bits.ensures.1; behind = behind (whole_by a.r a.options.now a.packages.now) a.size a.n (omega (arith, c.requires.cuttable.least)) _ l.out l.at l.from l.q l.invariant (omega arith); inside = omega (arith, m, l.invariant.long, l.invariant.fits); short = omega (arith, m, c.requires.cuttable.more, c.requires.cuttable.most) }; bits_bound = (c.bits_at-bits.ensures.1, omega arith) }
 
 pub overflow_add-at-in-loop-from : goal.overflow_add-at-in-loop-from
-overflow_add-at-in-loop-from c = omega (arith, c.least-m.ensures, c.requires.cuttable.more, c.requires.cuttable.most)
+overflow_add-at-in-loop-from c = omega (arith, c.min-m.ensures, c.requires.cuttable.more, c.requires.cuttable.most)
 
 pub overflow_add-at-in-loop-from-2 : goal.overflow_add-at-in-loop-from-2
-overflow_add-at-in-loop-from-2 c = let a = c.args in let l = c.loop-from in omega (arith, c.least-m.ensures, c.requires.cuttable.more, c.requires.cuttable.most, behind (whole_by a.r a.options.now a.packages.now) a.size a.n (omega (arith, c.requires.cuttable.least)) _ l.out l.at l.from l.q l.invariant (omega arith))
+overflow_add-at-in-loop-from-2 c = let a = c.args in let l = c.loop-from in omega (arith, c.min-m.ensures, c.requires.cuttable.more, c.requires.cuttable.most, behind (whole_by a.r a.options.now a.packages.now) a.size a.n (omega (arith, c.requires.cuttable.least)) _ l.out l.at l.from l.q l.invariant (omega arith))
 
 pub overflow_add-from-in-loop-from-2 : goal.overflow_add-from-in-loop-from-2
-overflow_add-from-in-loop-from-2 c = omega (arith, c.least-m.ensures, c.requires.cuttable.more, c.requires.cuttable.most)
+overflow_add-from-in-loop-from-2 c = omega (arith, c.min-m.ensures, c.requires.cuttable.more, c.requires.cuttable.most)
 
 pub loop-from-smaller : goal.loop-from-smaller
-loop-from-smaller c = omega (arith, c.least-m.ensures, c.requires.cuttable.least)
+loop-from-smaller c = omega (arith, c.min-m.ensures, c.requires.cuttable.least)
 
 pub loop-from-preserved : goal.loop-from-preserved
-loop-from-preserved c = let a = c.args in let l = c.loop-from in turn a.r a.options.now a.packages.now a.size a.n (omega (arith, c.requires.cuttable.least)) _ l.out l.at l.from l.q l.invariant (omega arith) _ _ _ _ c.least-m.ensures c.bits_at-bits.ensures.0 (omega (arith, l.invariant.place, pay_length a.r a.options.now a.packages.now a.size c.requires.cuttable)) c.next_number-q-in-loop-from.ensures c.put_at.ensures
+loop-from-preserved c = let a = c.args in let l = c.loop-from in turn a.r a.options.now a.packages.now a.size a.n (omega (arith, c.requires.cuttable.least)) _ l.out l.at l.from l.q l.invariant (omega arith) _ _ _ _ c.min-m.ensures c.bits_at-bits.ensures.0 (omega (arith, l.invariant.place, pay_length a.r a.options.now a.packages.now a.size c.requires.cuttable)) refl c.put_at.ensures
 
 pub shape_of-out : goal.shape_of-out
 shape_of-out c = let a = c.args in let l = c.loop-from in l.invariant.long ∙ third_same a.r a.options.now a.packages.now a.size c.requires.cuttable a.n c.requires.n_value.0 a.out.now c.requires.n_value.1 _ c.put_clean.ensures _ c.put_first.ensures

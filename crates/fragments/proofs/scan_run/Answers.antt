@@ -23,13 +23,13 @@ loop-i-preserved-then-st-ge4 c =
     rw c.without-st.ensures (scan-over a.run.now a.start v.st v.i _ (omega arith) v.invariant.0 c.rest_in-n.ensures, omega (arith, v.invariant.1))
 
 pub package_step-st-requires : goal.package_step-st-requires
-package_step-st-requires c = let v = c.loop-i in (omega (arith, c.wide16.ensures.1), v.invariant.0.small, omega (arith, v.invariant.1, v.invariant.0.inside))
+package_step-st-requires c = let v = c.loop-i in (omega arith, v.invariant.0.small, omega (arith, v.invariant.1, v.invariant.0.inside))
 
 pub loop-i-preserved : goal.loop-i-preserved
 loop-i-preserved c =
     let v = c.loop-i in
     let a = c.args in
-    (scan-on a.run.now a.start v.st v.i (omega arith) v.invariant.0 (omega arith) c.half_at.ensures c.wide16.ensures.0 c.package_step-st.ensures.0 c.package_step-st.ensures.1 c.package_step-st.ensures.2, omega (arith, c.package_step-st.ensures.1, start-few v.st.state, v.invariant.1))
+    (scan-on a.run.now a.start v.st v.i (omega arith) v.invariant.0 (omega arith) c.half_at.ensures c.package_step-st.ensures.0 c.package_step-st.ensures.1 c.package_step-st.ensures.2, omega (arith, c.package_step-st.ensures.1, start-few v.st.state, v.invariant.1))
 
 pub returns : goal.returns
 returns c = (scan-ended c.args.run.now c.args.start c.loop-i.st c.loop-i.i c.loop-i.invariant.0 (omega arith), starts-ended c.args.run.now c.args.start c.loop-i.st c.loop-i.i c.loop-i.invariant.0 (omega arith), c.loop-i.invariant.0.small)

@@ -1,10 +1,13 @@
--- `hibernaxo::hibernaxo_header` meets its contract: what reading told, by the definition's cases.
-use mathlib.Core.Path.{ap}
+-- `hibernaxo::hibernaxo_header` meets its contract: what reading told.
+use mathlib.Core.Path.{refl, ap, ◌∙◌}
+use Rattle.std.specs.Prelude.{Result}
+use Rattle.refusal.specs.declared.Refusal.{Refusal}
+use Rattle.message.specs.declared.Header.{Header}
+use Rattle.message.specs.Answers.{told_header}
 use Rattle.hibernaxo.specs.Told.{header_told}
+use Rattle.hibernaxo.proofs.Answered.{told_as}
 use Rattle.hibernaxo.proofs.hibernaxo_header.Goals as goal
 
-pub returns-in-Header : goal.returns-in-Header
-returns-in-Header c = ap header_told (rw c.in-Header.is at c.read_header.ensures)
-
-pub returns-in-Refused : goal.returns-in-Refused
-returns-in-Refused c = rw c.number_in.ensures (ap header_told (rw c.in-Refused.is at c.read_header.ensures))
+pub returns : goal.returns
+returns c =
+    c.put.ensures ∙ told_as _ 10 (λ (r : Result Header Refusal). header_told (told_header r)) (λ a. refl) (λ r. refl) c.read_header.result ∙ ap header_told c.read_header.ensures

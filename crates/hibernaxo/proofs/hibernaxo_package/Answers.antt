@@ -6,13 +6,13 @@ use Rattle.hibernaxo.specs.Told.{step_told}
 use Rattle.hibernaxo.proofs.hibernaxo_package.Goals as goal
 
 pub overflow_sub-values : goal.overflow_sub-values
-overflow_sub-values c = omega (arith, (inside _ _ _ (sym (rw c.in-Package.is at c.step_at.ensures))).least)
+overflow_sub-values c = omega (arith, (inside _ _ _ (sym (rw c.in-Ok-Some.field-0-is at c.in-Ok-Some.ensures))).least)
 
-pub returns-in-Package : goal.returns-in-Package
-returns-in-Package c = ap (step_told _) (rw c.in-Package.is at c.step_at.ensures)
+pub returns-in-Ok-Some : goal.returns-in-Ok-Some
+returns-in-Ok-Some c = ap (step_told _) (rw c.in-Ok-Some.field-0-is at c.in-Ok-Some.ensures)
 
-pub returns-in-End : goal.returns-in-End
-returns-in-End c = ap (step_told _) (rw c.in-End.is at c.step_at.ensures)
+pub returns-in-Ok-None : goal.returns-in-Ok-None
+returns-in-Ok-None c = ap (step_told _) (rw c.in-Ok-None.field-0-is at c.in-Ok-None.ensures)
 
-pub returns-in-Refused : goal.returns-in-Refused
-returns-in-Refused c = rw c.number_in.ensures (ap (step_told _) (rw c.in-Refused.is at c.step_at.ensures))
+pub returns-in-Err : goal.returns-in-Err
+returns-in-Err c = rw c.number_of.ensures (ap (step_told _) (c.in-Err.ensures))

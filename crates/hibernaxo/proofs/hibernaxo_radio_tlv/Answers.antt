@@ -3,11 +3,11 @@ use mathlib.Core.Path.{ap}
 use Rattle.hibernaxo.specs.Radio.{tlv_told}
 use Rattle.hibernaxo.proofs.hibernaxo_radio_tlv.Goals as goal
 
-pub returns-in-Tlv : goal.returns-in-Tlv
-returns-in-Tlv c = rw c.tlv_values.ensures (ap (tlv_told _) (rw c.in-Tlv.is at c.tlv_at.ensures))
+pub returns-in-Ok-Some : goal.returns-in-Ok-Some
+returns-in-Ok-Some c = rw c.tlv_values.ensures (ap (tlv_told _) (rw c.in-Ok-Some.field-0-is at c.in-Ok-Some.ensures))
 
-pub returns-in-End : goal.returns-in-End
-returns-in-End c = ap (tlv_told _) (rw c.in-End.is at c.tlv_at.ensures)
+pub returns-in-Ok-None : goal.returns-in-Ok-None
+returns-in-Ok-None c = ap (tlv_told _) (rw c.in-Ok-None.field-0-is at c.in-Ok-None.ensures)
 
-pub returns-in-Refused : goal.returns-in-Refused
-returns-in-Refused c = rw c.number_in.ensures (ap (tlv_told _) (rw c.in-Refused.is at c.tlv_at.ensures))
+pub returns-in-Err : goal.returns-in-Err
+returns-in-Err c = rw c.number_of.ensures (ap (tlv_told _) (c.in-Err.ensures))

@@ -5,4 +5,4 @@ use Rattle.hibernaxo.proofs.Buffers.{with-buffer}
 use Rattle.hibernaxo.proofs.hibernaxo_salvage.Goals as goal
 
 pub returns : goal.returns
-returns c = with-buffer salvage_values (report c.salvage-a.result) _ c.put_salvaged.ensures c.salvage-a.ensures
+returns c = with-buffer salvage_values (report c.salvage.result) _ c.put_salvaged.ensures c.salvage.ensures

@@ -4,7 +4,7 @@ use native.Mathlib.Omega.{arith}
 use borrow.Author.Rules.{rules}
 use lib.ListN.{length}
 use lib.Seq.{take_all}
-use Rattle.numbered.proofs.Stores.{put_next}
+use Rattle.hibernaxo.proofs.Stored.{put_next}
 use Rattle.hibernaxo.proofs.put_part.Goals as goal
 
 pub loop-i-init : goal.loop-i-init

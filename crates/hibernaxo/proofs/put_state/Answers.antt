@@ -2,8 +2,9 @@
 use Prim.Native.Nat.{ℕ, ◌%◌}
 use mathlib.Core.Path.{◌≡◌, ap, ◌∙◌}
 use mathlib.Core.List.{List}
+use native.Mathlib.Omega.{arith}
 use borrow.Author.Rules.{rules}
-use lib.ListN.{length, replicate, length-replicate}
+use lib.ListN.{length}
 use lib.Seq.{sets}
 use Rattle.hibernaxo.proofs.States.{state-stored}
 use Rattle.hibernaxo.proofs.put_state.Goals as goal
@@ -18,5 +19,6 @@ next-long s = search rules
 pub returns : goal.returns
 returns c =
     let a = c.args in
+    let long : length a.state.now ≡ 129 = omega arith in
     c.put_part-2.ensures ∙ ap (λ (x : List ℕ). sets x 65 a.after.next) c.put_part.ensures
-    ∙ state-stored (replicate {A = ℕ} 129 0) a.after.ids a.after.next (a.after.held % 4294967296) (length-replicate {A = ℕ} 129 0) (ids-long (goal.at.returns c).Start) (next-long (goal.at.returns c).Start)
+    ∙ state-stored a.state.now a.after.ids a.after.next (a.after.held % 4294967296) long (ids-long (goal.at.returns c).Start) (next-long (goal.at.returns c).Start)

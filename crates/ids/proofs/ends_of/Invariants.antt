@@ -1,12 +1,8 @@
 -- `ids::ends_of` meets its contract: in the loop the first i ranges are there by their ends.
 use mathlib.Core.Path.{◌≡◌}
-use Prim.Native.Nat.{◌-◌, ◌≤◌}
 use lib.ListN.{length, take}
 use Rattle.ids.specs.Told.{ranges_in}
 use Rattle.ids.proofs.ends_of.Given as goal
 
 abbrev pub invariant-loop-i : goal.invariant-loop-i
-invariant-loop-i l = (l.i ≤ 32) × (length l.ranges ≡ 32) × (length l.ends ≡ 64) × (take l.i (ranges_in 32 l.ends) ≡ take l.i l.ranges)
-
-abbrev pub decreases-loop-i : goal.decreases-loop-i
-decreases-loop-i l = 32 - l.i
+invariant-loop-i l = (length l.ranges ≡ 32) × (length l.ends ≡ 64) × (take l.i (ranges_in 32 l.ends) ≡ take l.i l.ranges)

@@ -2,11 +2,11 @@
 use mathlib.Core.Path.{sym, ◌∙◌}
 use Prim.Native.Nat.{◌+◌}
 use native.Mathlib.Omega.{arith}
-use Rattle.ids.proofs.Steps.{few-digits, item_missing, item-one, hyphen-inside, item-half, item-two}
+use Rattle.ids.proofs.Steps.{few-digits, item_missing, item-one, item-half, item-two}
 use Rattle.ids.proofs.item_at.Goals as goal
 
 pub returns-then-a-eq0 : goal.returns-then-a-eq0
-returns-then-a-eq0 c = item_missing c.args.s.now c.args.at _ _ c.digits_at-a.ensures.0 c.digits_at-a.ensures.1 c.if-a-eq0.true
+returns-then-a-eq0 c = rw c.refuse.ensures (item_missing c.args.s.now c.args.at _ _ c.digits_at-a.ensures.0 c.digits_at-a.ensures.1 c.if-a-eq0.true)
 
 pub overflow_add-m : goal.overflow_add-m
 overflow_add-m c = let n = few-digits c.args.s.now c.args.at _ _ c.digits_at-a.ensures.0 c.digits_at-a.ensures.1 in omega arith
@@ -14,23 +14,11 @@ overflow_add-m c = let n = few-digits c.args.s.now c.args.at _ _ c.digits_at-a.e
 pub returns-then-byte_at-ne45 : goal.returns-then-byte_at-ne45
 returns-then-byte_at-ne45 c = item-one c.args.s.now c.args.at _ _ c.digits_at-a.ensures.0 c.digits_at-a.ensures.1 c.if-a-eq0.false (λ z. c.if-byte_at-ne45.true (c.byte_at.ensures ∙ z))
 
-pub overflow_add-m-2 : goal.overflow_add-m-2
-overflow_add-m-2 c = let n = hyphen-inside c.args.s.now c.args.at _ _ c.digits_at-a.ensures.0 c.digits_at-a.ensures.1 c.if-a-eq0.false (sym c.byte_at.ensures ∙ c.if-byte_at-ne45.false) in omega arith
-
-pub digits_at-b-requires : goal.digits_at-b-requires
-digits_at-b-requires c = hyphen-inside c.args.s.now c.args.at _ _ c.digits_at-a.ensures.0 c.digits_at-a.ensures.1 c.if-a-eq0.false (sym c.byte_at.ensures ∙ c.if-byte_at-ne45.false)
-
-pub overflow_add-result : goal.overflow_add-result
-overflow_add-result c = let n = hyphen-inside c.args.s.now c.args.at _ _ c.digits_at-a.ensures.0 c.digits_at-a.ensures.1 c.if-a-eq0.false (sym c.byte_at.ensures ∙ c.if-byte_at-ne45.false) in omega arith
-
 pub returns-then-b-eq0 : goal.returns-then-b-eq0
-returns-then-b-eq0 c = item-half c.args.s.now c.args.at _ _ c.digits_at-a.ensures.0 c.digits_at-a.ensures.1 c.if-a-eq0.false (sym c.byte_at.ensures ∙ c.if-byte_at-ne45.false) _ _ c.digits_at-b.ensures.0 c.digits_at-b.ensures.1 c.if-b-eq0.true
+returns-then-b-eq0 c = rw c.refuse-then-b-eq0.ensures (item-half c.args.s.now c.args.at _ _ c.digits_at-a.ensures.0 c.digits_at-a.ensures.1 c.if-a-eq0.false (sym c.byte_at.ensures ∙ c.if-byte_at-ne45.false) _ _ c.digits_at-b.ensures.0 c.digits_at-b.ensures.1 c.if-b-eq0.true)
 
 pub overflow_add-result-2 : goal.overflow_add-result-2
-overflow_add-result-2 c = let n = few-digits c.args.s.now c.args.at _ _ c.digits_at-a.ensures.0 c.digits_at-a.ensures.1 in omega arith
-
-pub overflow_add-result-3 : goal.overflow_add-result-3
-overflow_add-result-3 c = let n = few-digits c.args.s.now c.args.at _ _ c.digits_at-a.ensures.0 c.digits_at-a.ensures.1 in let m = few-digits c.args.s.now (c.args.at + c.digits_at-a.result.count + 1) _ _ c.digits_at-b.ensures.0 c.digits_at-b.ensures.1 in omega arith
+overflow_add-result-2 c = let n = few-digits c.args.s.now c.args.at _ _ c.digits_at-a.ensures.0 c.digits_at-a.ensures.1 in let m = few-digits c.args.s.now (c.args.at + c.digits_at-a.result.count + 1) _ _ c.digits_at-b.ensures.0 c.digits_at-b.ensures.1 in omega arith
 
 pub returns : goal.returns
 returns c = item-two c.args.s.now c.args.at _ _ c.digits_at-a.ensures.0 c.digits_at-a.ensures.1 c.if-a-eq0.false (sym c.byte_at.ensures ∙ c.if-byte_at-ne45.false) _ _ c.digits_at-b.ensures.0 c.digits_at-b.ensures.1 c.if-b-eq0.false

@@ -1,6 +1,6 @@
 -- `ids::line_len` meets its contract: the first i ranges are measured.
 use mathlib.Core.Path.{◌≡◌}
-use Prim.Native.Nat.{◌-◌, ◌≤◌}
+use Prim.Native.Nat.{◌≤◌}
 use lib.ListN.{length}
 use Rattle.ids.specs.Told.{ranges_in}
 use Rattle.ids.proofs.Writing.{Measuring}
@@ -8,6 +8,3 @@ use Rattle.ids.proofs.line_len.Given as goal
 
 abbrev pub invariant-loop-i : goal.invariant-loop-i
 invariant-loop-i l = (l.i ≤ l.n) × (l.n ≤ 32) × (length l.ends ≡ 64) × Measuring (ranges_in 32 l.ends) l.i l.len
-
-abbrev pub decreases-loop-i : goal.decreases-loop-i
-decreases-loop-i l = l.n - l.i

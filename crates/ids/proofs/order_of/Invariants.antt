@@ -1,6 +1,5 @@
 -- `ids::order_of` meets its contract: no range before i is inverted, and i is at most 32.
 use mathlib.Core.Path.{◌≡◌}
-use Prim.Native.Nat.{◌-◌}
 use lib.ListN.{length}
 use Rattle.ids.specs.Told.{ranges_in}
 use Rattle.ids.proofs.Ends.{many}
@@ -9,6 +8,3 @@ use Rattle.ids.proofs.order_of.Given as goal
 
 abbrev pub invariant-loop-i : goal.invariant-loop-i
 invariant-loop-i l = (length l.ends ≡ 64) × Ordering (ranges_in 32 l.ends) l.n (many 32 l.ends) l.i
-
-abbrev pub decreases-loop-i : goal.decreases-loop-i
-decreases-loop-i l = l.n - l.i

@@ -9,27 +9,12 @@ use Rattle.ids.proofs.Ends.{many}
 use Rattle.ids.proofs.Writing.{line, line_first, measuring-start, storing_measured, storing_next}
 use Rattle.ids.proofs.put_line.Goals as goal
 
-pub range_at-requires : goal.range_at-requires
-range_at-requires c = (omega arith, c.requires.2)
-
 pub loop-i-init : goal.loop-i-init
 loop-i-init c =
     let p = c.requires in
     let r = c.put_item-at.ensures in
     let m = measuring-start _ (many 32 _) _ ((rw c.range_at.ensures at r.1) ∙ zero-add _) (omega (arith, r.2)) in
     (p.0, p.1, p.2, m, refl, λ b e. e)
-
-pub put_byte-requires : goal.put_byte-requires
-put_byte-requires c = tt
-
-pub overflow_add-at : goal.overflow_add-at
-overflow_add-at c = let v = c.loop-i in omega (arith, v.invariant.3.small, v.invariant.1)
-
-pub range_at-requires-in-loop-i : goal.range_at-requires-in-loop-i
-range_at-requires-in-loop-i c = let v = c.loop-i in (omega (arith, v.invariant.1), v.invariant.2)
-
-pub put_item-at-requires-in-loop-i : goal.put_item-at-requires-in-loop-i
-put_item-at-requires-in-loop-i c = let v = c.loop-i in omega (arith, v.invariant.3.small, v.invariant.1)
 
 pub loop-i-preserved : goal.loop-i-preserved
 loop-i-preserved c =
@@ -46,9 +31,6 @@ loop-i-preserved c =
       put.auto.out ∙ comma.auto.out ∙ v.invariant.4,
       λ b e. storing_next _ (many 32 _) b _ _ _ _ _ l v.invariant.3 (v.invariant.5 b e) comma.ensures r.0,
     )
-
-pub shape_of-out : goal.shape_of-out
-shape_of-out c = c.loop-i.invariant.4 ∙ c.put_item-at.auto.out
 
 pub returns : goal.returns
 returns c =

@@ -3,19 +3,20 @@ use mathlib.Core.Path.{sym, ap, ◌∙◌}
 use native.Mathlib.Omega.{arith}
 use borrow.Author.Rules.{rules}
 use Rattle.message.proofs.Messages.{Onward, start, next, stopped, ended, too_large}
-use Rattle.message.specs.Answers.{told_span}
+use Rattle.refusal.specs.Numbers.{outcome_of}
+use Rattle.refusal.proofs.Numbers.{handed_on}
 use Rattle.message.proofs.check.Goals as goal
-use Rattle.message.proofs.check.Goals.{In-Message}
+use Rattle.message.proofs.check.Goals.{In_ok-next}
 
 pub returns-then-s-gt65536 : goal.returns-then-s-gt65536
-returns-then-s-gt65536 c = too_large _ c.if-s-gt65536.true
+returns-then-s-gt65536 c = rw c.refuse.ensures (too_large _ c.if-s-gt65536.true)
 
 pub loop-i-init : goal.loop-i-init
 loop-i-init c = start _
 
 -- a turn behind a message
-on : (c : In-Message) → Onward c.args.s.now c.loop-i.i c.loop-i.messages c.loop-i.packages c.in-Message.next c.in-Message.many
-on c = next _ _ _ _ c.loop-i.invariant (search rules) c.loop-i-test.true (ap told_span (sym c.in-Message.is) ∙ c.span_at.ensures)
+on : (c : In_ok-next) → Onward c.args.s.now c.loop-i.i c.loop-i.messages c.loop-i.packages c.in_ok-next.next c.in_ok-next.many
+on c = next _ _ _ _ c.loop-i.invariant (search rules) c.loop-i-test.true (ap outcome_of (sym c.in_ok-next.was) ∙ c.span_at.ensures)
 
 pub overflow_add-messages : goal.overflow_add-messages
 overflow_add-messages c = omega (arith, (on c).checking.few, (on c).checking.inside)
@@ -29,8 +30,8 @@ loop-i-smaller c = omega (arith, (on c).less, (on c).checking.inside)
 pub loop-i-preserved : goal.loop-i-preserved
 loop-i-preserved c = (on c).checking
 
-pub returns-in-Refused : goal.returns-in-Refused
-returns-in-Refused c = stopped _ _ _ _ c.loop-i.invariant (search rules) c.loop-i-test.true (ap told_span (sym c.in-Refused.is) ∙ c.span_at.ensures)
+pub returns-in_err-next : goal.returns-in_err-next
+returns-in_err-next c = handed_on _ _ _ c.from_residual.ensures.1 (stopped _ _ _ _ c.loop-i.invariant (search rules) c.loop-i-test.true c.in_err-next.ensures)
 
 pub returns : goal.returns
 returns c = ended _ _ _ _ c.loop-i.invariant (search rules) c.loop-i-test.false

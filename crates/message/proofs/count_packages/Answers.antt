@@ -7,7 +7,7 @@ use Rattle.message.proofs.count_packages.Goals as goal
 
 pub returns-then-q-gt65536 : goal.returns-then-q-gt65536
 unfolding cut_of
-returns-then-q-gt65536 c = sym (halt _ _ _ _ (lt-ltb _ _ c.if-q-gt65536.true))
+returns-then-q-gt65536 c = rw c.refuse.ensures (sym (halt _ _ _ _ (lt-ltb _ _ c.if-q-gt65536.true)))
 
 pub returns : goal.returns
 unfolding cut_of

@@ -3,19 +3,21 @@ use mathlib.Core.Path.{◌≡◌, sym, ap, ◌∙◌}
 use native.Mathlib.Omega.{arith}
 use Rattle.rules.specs.Outcome.{good}
 use Rattle.message.proofs.Fronts.{front-is, front-bad, entered, front_stopped}
-use Rattle.message.specs.Answers.{told_count, front_run}
+use Rattle.message.specs.Answers.{front_run}
+use Rattle.refusal.specs.Numbers.{outcome_of}
+use Rattle.refusal.proofs.Numbers.{handed_on}
 use Rattle.message.proofs.message_at.Goals as goal
-use Rattle.message.proofs.message_at.Goals.{then-plain_at, else-plain_at+in-Number, Joined-plain_at}
+use Rattle.message.proofs.message_at.Goals.{then-plain_at, else-plain_at+in_ok-run, Joined-plain_at}
 
-pub returns-in-Refused : goal.returns-in-Refused
-returns-in-Refused c = front_stopped _ _ (front-bad _ _ (ap told_count (sym c.in-Refused.is) ∙ c.checked_run.ensures ∙ front-is _ _))
+pub returns-in_err-run : goal.returns-in_err-run
+returns-in_err-run c = handed_on _ _ _ c.from_residual.ensures.1 (front_stopped _ _ (front-bad _ _ (c.in_err-run.ensures ∙ front-is _ _)))
 
 -- checks 1 to 9 pass, of a plain message or of another
 passing : (c : Joined-plain_at) → good c.if-plain_at.run ≡ front_run c.args.s.now c.args.at
 passing c =
     elim c.if-plain_at.branch [
       | then-plain_at w ↦ ap good w.run-is ∙ sym (c.plain_at.ensures w.if-plain_at.true)
-      | else-plain_at+in-Number w ↦ ap good w.run-is ∙ ap told_count (sym w.in-Number.is) ∙ w.checked_run.ensures ∙ front-is _ _
+      | else-plain_at+in_ok-run w ↦ ap good w.run-is ∙ ap outcome_of (sym w.in_ok-run.was) ∙ w.checked_run.ensures ∙ front-is _ _
     ]
 
 pub slice_bounds-checks_from_ten-count : goal.slice_bounds-checks_from_ten-count

@@ -7,7 +7,7 @@ use Rattle.message.proofs.option_run_length.Goals as goal
 
 pub returns-then-o-gt65536 : goal.returns-then-o-gt65536
 unfolding options_of
-returns-then-o-gt65536 c = sym (halt _ _ _ _ (lt-ltb _ _ c.if-o-gt65536.true))
+returns-then-o-gt65536 c = rw c.refuse.ensures (sym (halt _ _ _ _ (lt-ltb _ _ c.if-o-gt65536.true)))
 
 pub returns : goal.returns
 unfolding options_of

@@ -1,11 +1,10 @@
 -- `message::read_header` meets its contract: the checks, then the numbers.
-use mathlib.Core.Path.{sym, ap, ◌∙◌}
 use Rattle.message.proofs.Headers.{not_alone, alone}
-use Rattle.message.specs.Answers.{told_count}
+use Rattle.refusal.proofs.Numbers.{handed_on}
 use Rattle.message.proofs.read_header.Goals as goal
 
-pub returns-in-Refused : goal.returns-in-Refused
-returns-in-Refused c = not_alone _ (ap told_count (sym c.in-Refused.is) ∙ c.checked_run.ensures)
+pub returns-in_err-run : goal.returns-in_err-run
+returns-in_err-run c = handed_on _ _ _ c.from_residual.ensures.1 (not_alone _ c.in_err-run.ensures)
 
-pub returns-in-Number : goal.returns-in-Number
-returns-in-Number c = alone _ _ _ (ap told_count (sym c.in-Number.is) ∙ c.checked_run.ensures) c.header_of.ensures
+pub returns : goal.returns
+returns c = alone _ _ _ c.in_ok-run.ensures c.header_of.ensures

@@ -25,7 +25,7 @@ pub returns-in-Ends : goal.returns-in-Ends
 returns-in-Ends c = ended _ _ _ _ c.loop-i.invariant c.loop-i-test.true (sym c.in-Ends.is ∙ c.option_next.ensures)
 
 pub returns-in-Bad : goal.returns-in-Bad
-returns-in-Bad c = stopped _ _ _ _ c.loop-i.invariant c.loop-i-test.true (sym c.in-Bad.is ∙ c.option_next.ensures)
+returns-in-Bad c = rw c.refuse.ensures (stopped _ _ _ _ c.loop-i.invariant c.loop-i-test.true (sym c.in-Bad.is ∙ c.option_next.ensures))
 
 pub returns : goal.returns
 returns c = all _ _ _ _ c.loop-i.invariant c.loop-i-test.false

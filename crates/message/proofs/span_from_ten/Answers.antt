@@ -1,14 +1,15 @@
 -- `message::span_from_ten` meets its contract: what is told of the message is told of its span.
-use mathlib.Core.Path.{sym, ap, ◌∙◌}
+use mathlib.Core.Path.{refl, sym, ap, ◌∙◌}
 use Rattle.message.proofs.Messages.{no_cut, miscounted, whole, span-bad, span-good}
-use Rattle.message.specs.Answers.{told_count}
+use Rattle.refusal.specs.Numbers.{outcome_of}
+use Rattle.refusal.proofs.Numbers.{handed_on}
 use Rattle.message.proofs.span_from_ten.Goals as goal
 
 pub returns-then-miscounts : goal.returns-then-miscounts
-returns-then-miscounts c = span-bad (miscounted _ _ _ c.requires _ _ c.payload_start-from.ensures.0 c.wide32-to.ensures.0 _ (ap told_count (sym c.in-Number.is) ∙ c.packages_of.ensures) (sym c.miscounts.ensures ∙ c.if-miscounts.true))
+returns-then-miscounts c = rw c.refuse.ensures (span-bad (miscounted _ _ _ c.requires _ _ c.payload_start-from.ensures.0 refl _ (ap outcome_of (sym c.in_ok-packages.was) ∙ c.packages_of.ensures) (sym c.miscounts.ensures ∙ c.if-miscounts.true)))
 
-pub returns-in-Refused : goal.returns-in-Refused
-returns-in-Refused c = span-bad (no_cut _ _ _ c.requires _ _ c.payload_start-from.ensures.0 c.wide32-to.ensures.0 (ap told_count (sym c.in-Refused.is) ∙ c.packages_of.ensures))
+pub returns-in_err-packages : goal.returns-in_err-packages
+returns-in_err-packages c = handed_on _ _ _ c.from_residual.ensures.1 (span-bad (no_cut _ _ _ c.requires _ _ c.payload_start-from.ensures.0 refl c.in_err-packages.ensures))
 
-pub returns-else-miscounts : goal.returns-else-miscounts
-returns-else-miscounts c = span-good (whole _ _ _ c.requires _ _ c.payload_start-from.ensures.0 c.wide32-to.ensures.0 _ (ap told_count (sym c.in-Number.is) ∙ c.packages_of.ensures) (sym c.miscounts.ensures ∙ c.if-miscounts.false))
+pub returns : goal.returns
+returns c = span-good (whole _ _ _ c.requires _ _ c.payload_start-from.ensures.0 refl _ (ap outcome_of (sym c.in_ok-packages.was) ∙ c.packages_of.ensures) (sym c.miscounts.ensures ∙ c.if-miscounts.false))

@@ -1,29 +1,17 @@
--- `numbered::again` meets its contract: in the loop the id does not stand between i and k.
-use borrow.Author.Rules.{rules}
-use mathlib.Core.Path.{refl, sym, ap, ◌∙◌}
+-- `numbered::again` meets its contract: what is behind place i is all of the part that is searched.
+use mathlib.Core.Path.{ap, ◌∙◌}
+use mathlib.Core.List.{List}
+use Prim.Native.Nat.{ℕ, ◌+◌}
 use native.Mathlib.Omega.{arith}
-use borrow.Author.Tests.{lt-ltb}
-use lib.Dec.{ltb}
-use Rattle.numbered.proofs.Twice.{again-end, again-next, again-hit}
+use lib.Dec.{eqb}
+use lib.ListN.{drop, length-drop, get_or}
+use lib.Seq.{take_all}
+use Rattle.std.specs.List.{list_any}
+use Rattle.numbered.proofs.Twice.{any_count}
 use Rattle.numbered.proofs.again.Goals as goal
-
-pub loop-k-init : goal.loop-k-init
-loop-k-init c = (omega arith, refl)
-
-pub returns-then-ids-k : goal.returns-then-ids-k
-returns-then-ids-k c =
-    let a = c.args in
-    let v = c.loop-k in
-    sym (ap (ltb 0) v.invariant.1 ∙ lt-ltb 0 _ (again-hit a.ids.now _ v.k (search rules) c.if-ids-k.true))
-
-pub loop-k-preserved : goal.loop-k-preserved
-loop-k-preserved c =
-    let a = c.args in
-    let v = c.loop-k in
-    (omega arith, v.invariant.1 ∙ again-next a.ids.now _ v.k (search rules) c.if-ids-k.false)
 
 pub returns : goal.returns
 returns c =
     let a = c.args in
-    let v = c.loop-k in
-    sym (ap (ltb 0) (v.invariant.1 ∙ again-end a.ids.now _ v.k (search rules)))
+    let behind : List ℕ = drop (a.i + 1) a.ids.now in
+    c.contains.ensures.value ∙ ap (list_any (λ (y : ℕ). eqb y (get_or a.ids.now a.i 0))) (take_all _ behind (omega (arith, length-drop (a.i + 1) a.ids.now))) ∙ any_count (get_or a.ids.now a.i 0) behind

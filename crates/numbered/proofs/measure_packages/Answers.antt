@@ -1,13 +1,12 @@
 -- `numbered::measure_packages` meets its contract: in the loop what is done are the packages before what is left, and their flags are marked.
-use mathlib.Core.Path.{◌≡◌, sym, ap, ap₂, ◌∙◌}
+use mathlib.Core.Path.{◌≡◌, ap, ap₂, ◌∙◌}
 use mathlib.Core.List.{List}
 use Prim.Native.Nat.{ℕ, ◌≤◌}
 use native.Mathlib.Omega.{arith}
+use borrow.Author.Rules.{rules}
 use lib.ListN.{length}
-use lib.Seq.{length-take-le}
 use Rattle.message.specs.declared.Mdid.{Mdid}
 use Rattle.message.specs.declared.Package.{Package}
-use Rattle.message.specs.Answers.{told_package}
 use Rattle.rules.specs.Message.{is_simulated}
 use Rattle.rules.specs.Walk.{package_at}
 use Rattle.sheet.specs.Table.{rows_in, near_grants}
@@ -16,16 +15,24 @@ use Rattle.message.proofs.Left.{gone, none-gone, left-all, left-long, more-gone,
 use Rattle.message.proofs.Moved.{moved}
 use Rattle.numbered.proofs.Found.{Found, on, still}
 use Rattle.sheet.proofs.TableRows.{near_laid}
-use Rattle.numbered.proofs.Packages.{found-behind, near_asked, walk_start, walk_ended, walk_stopped, walk_next}
+use Rattle.numbered.proofs.Packages.{NoPackage, found-behind, near_asked, walk_start, walk_ended, walk_stopped, walk_next}
 use Rattle.numbered.proofs.measure_packages.Goals as goal
-use Rattle.numbered.proofs.measure_packages.Goals.{In-Package}
+use Rattle.numbered.proofs.measure_packages.Goals.{In-Ok-Some, In_default, in_default-via-in-Ok+in_default, in_default-via-in_default}
 
 -- a package was read
 abbrev Read : Type 0
-Read = In-Package
+Read = In-Ok-Some
 
 abbrev which : Read → Package
-which c = c.in-Package.p
+which c = c.in-Ok-Some.p
+
+-- or none was
+no-package : (c : In_default) → NoPackage c.package_at.result
+no-package c =
+    elim c.in_default.branch [
+      | in_default-via-in-Ok+in_default w ↦ λ p e. absurd (search rules)
+      | in_default-via-in_default w ↦ λ p e. absurd (search rules)
+    ]
 
 -- where it stands in the run
 at : Read → ℕ
@@ -35,7 +42,7 @@ place : (c : Read) → Found c.args.run.now (at c) (moved (at c) (which c))
 unfolding at
 place c =
     let v = c.loop-rest in
-    found-behind c.args.run.now (at c) (omega (arith, v.invariant.0)) (which c) (ap told_package (sym c.in-Package.is) ∙ c.package_at-found.ensures ∙ ap (λ (l : List ℕ). package_at l 0) v.invariant.3.is)
+    found-behind c.args.run.now (at c) (omega (arith, v.invariant.0)) (which c) (rw c.in-Ok-Some.field-0-is at c.in-Ok-Some.ensures ∙ ap (λ (l : List ℕ). package_at l 0) v.invariant.3.is)
 
 -- and that it lies in what is left
 fit : (c : Read) → (which c).next ≤ length c.loop-rest.rest.now
@@ -47,52 +54,30 @@ loop-rest-init c =
     let a = c.args in
     let n = c.near_rows-many in
     let m = c.source_of.ensures in
-    let (l, e) = near_laid a.table.now a.near.now _ n.result _ a.h.id.0 _ (is_simulated a.h.flags) (ap (λ (x : Mdid). x.0) m.0) m.1 c.requires.1 c.requires.2 n.ensures.0 n.ensures.1 in
-    (c.requires.0, l, e, left-all _, rw (none-gone a.run.now) (walk_start (rows_in a.table.now) (message_by a.h) a.run.now a.marks.now a.first c.requires.3))
-
-pub overflow_sub-end : goal.overflow_sub-end
-overflow_sub-end c = c.loop-rest.invariant.3.most
-
-pub shape_of-marks-in_default : goal.shape_of-marks-in_default
-shape_of-marks-in_default c = c.loop-rest.invariant.4.long ∙ sym c.requires.3
+    let (l, e) = near_laid a.table.now a.near.now _ n.result _ a.h.id.0 _ (is_simulated a.h.flags) (ap (λ (x : Mdid). x.0) m.0) m.1 c.requires.1 (search rules) n.ensures.0 n.ensures.1 in
+    (c.requires.0, l, e, left-all _, rw (none-gone a.run.now) (walk_start (rows_in a.table.now) (message_by a.h) a.run.now a.marks.now a.first (search rules)))
 
 pub returns-in_default : goal.returns-in_default
 returns-in_default c =
     let v = c.loop-rest in
     let a = c.args in
-    walk_stopped (rows_in a.table.now) (message_by a.h) a.run.now a.marks.now a.first v.size v.all v.marks _ v.invariant.4 (omega (arith, v.invariant.0)) (omega (arith, c.loop-rest-test.true, v.invariant.3.most)) c.package_at-found.result c.in_default.not-Package (c.package_at-found.ensures ∙ ap (λ (l : List ℕ). package_at l 0) v.invariant.3.is)
-
-pub slice_bounds-near_grants-end : goal.slice_bounds-near_grants-end
-slice_bounds-near_grants-end c = c.loop-rest.invariant.1
-
-pub slice_bounds-near_grants-end-in-loop-rest : goal.slice_bounds-near_grants-end-in-loop-rest
-slice_bounds-near_grants-end-in-loop-rest c = sym (length-take-le _ _ c.loop-rest.invariant.1)
-
-pub overflow_add-first : goal.overflow_add-first
-overflow_add-first c =
-    let v = c.loop-rest in
-    omega (arith, v.invariant.0, v.invariant.4.least, v.invariant.4.keeping.inside)
+    walk_stopped (rows_in a.table.now) (message_by a.h) a.run.now a.marks.now a.first v.size v.all v.marks _ v.invariant.4 (omega (arith, v.invariant.0)) (omega (arith, c.loop-rest-test.true, v.invariant.3.most)) c.package_at.result (no-package c) (c.package_at.ensures ∙ ap (λ (l : List ℕ). package_at l 0) v.invariant.3.is)
 
 pub with_package-size-requires : goal.with_package-size-requires
 with_package-size-requires c =
     let i = c.loop-rest.invariant in
-    (omega (arith, i.0, i.4.small, i.4.keeping.inside), omega (arith, i.0, i.4.few, i.4.keeping.inside), omega (arith, i.0, i.3.most, fit (goal.at.with_package-size-requires c).In-Package))
-
-pub overflow_add-all : goal.overflow_add-all
-overflow_add-all c =
-    let i = c.loop-rest.invariant in
-    omega (arith, i.0, i.4.least, i.4.keeping.inside)
+    (omega (arith, i.0, i.4.small, i.4.keeping.inside), omega (arith, i.0, i.4.few, i.4.keeping.inside), omega (arith, i.0, i.3.most, fit (goal.at.with_package-size-requires c).In-Ok-Some))
 
 pub slice_bounds-rest-count : goal.slice_bounds-rest-count
-slice_bounds-rest-count c = fit (goal.at.slice_bounds-rest-count c).In-Package
+slice_bounds-rest-count c = fit (goal.at.slice_bounds-rest-count c).In-Ok-Some
 
 pub slice_bounds-rest-start : goal.slice_bounds-rest-start
-slice_bounds-rest-start c = fit (goal.at.slice_bounds-rest-start c).In-Package
+slice_bounds-rest-start c = fit (goal.at.slice_bounds-rest-start c).In-Ok-Some
 
 pub loop-rest-smaller : goal.loop-rest-smaller
 unfolding at
 loop-rest-smaller c =
-    omega (arith, on _ _ _ (place (goal.at.loop-rest-smaller c).In-Package), fit (goal.at.loop-rest-smaller c).In-Package, left-long _ _ _ c.loop-rest.invariant.3 (fit (goal.at.loop-rest-smaller c).In-Package))
+    omega (arith, on _ _ _ (place (goal.at.loop-rest-smaller c).In-Ok-Some), fit (goal.at.loop-rest-smaller c).In-Ok-Some, left-long _ _ _ c.loop-rest.invariant.3 (fit (goal.at.loop-rest-smaller c).In-Ok-Some))
 
 pub loop-rest-preserved : goal.loop-rest-preserved
 unfolding at
@@ -100,11 +85,8 @@ loop-rest-preserved c =
     let v = c.loop-rest in
     let a = c.args in
     let g = c.near_grants-granted in
-    let asked = g.ensures ∙ ap₂ (λ (t : ℕ) (l : List ℕ). near_grants (which (goal.at.loop-rest-preserved c).In-Package).id.0 t l) c.package_time-time.ensures v.invariant.2 ∙ near_asked a.table.now a.h a.run.now (at (goal.at.loop-rest-preserved c).In-Package) (moved (at (goal.at.loop-rest-preserved c).In-Package) (which (goal.at.loop-rest-preserved c).In-Package)) (place (goal.at.loop-rest-preserved c).In-Package) in
-    (v.invariant.0, v.invariant.1, v.invariant.2, left-on _ _ _ v.invariant.3 (fit (goal.at.loop-rest-preserved c).In-Package), rw (more-gone _ _ _ v.invariant.3 (fit (goal.at.loop-rest-preserved c).In-Package), c.with_package-size.ensures, c.put_bit.ensures) (walk_next (rows_in a.table.now) (message_by a.h) a.run.now a.marks.now a.first v.size v.all v.marks (at (goal.at.loop-rest-preserved c).In-Package) v.invariant.4 (omega (arith, v.invariant.0)) (omega (arith, c.loop-rest-test.true, v.invariant.3.most)) v.invariant.0 (which (goal.at.loop-rest-preserved c).In-Package) (place (goal.at.loop-rest-preserved c).In-Package) g.result asked))
-
-pub shape_of-marks : goal.shape_of-marks
-shape_of-marks c = c.loop-rest.invariant.4.long ∙ sym c.requires.3
+    let asked = g.ensures ∙ ap₂ (λ (t : ℕ) (l : List ℕ). near_grants (which (goal.at.loop-rest-preserved c).In-Ok-Some).id.0 t l) c.package_time-time.ensures v.invariant.2 ∙ near_asked a.table.now a.h a.run.now (at (goal.at.loop-rest-preserved c).In-Ok-Some) (moved (at (goal.at.loop-rest-preserved c).In-Ok-Some) (which (goal.at.loop-rest-preserved c).In-Ok-Some)) (place (goal.at.loop-rest-preserved c).In-Ok-Some) in
+    (v.invariant.0, v.invariant.1, v.invariant.2, left-on _ _ _ v.invariant.3 (fit (goal.at.loop-rest-preserved c).In-Ok-Some), rw (more-gone _ _ _ v.invariant.3 (fit (goal.at.loop-rest-preserved c).In-Ok-Some), c.with_package-size.ensures, c.put_bit.ensures) (walk_next (rows_in a.table.now) (message_by a.h) a.run.now a.marks.now a.first v.size v.all v.marks (at (goal.at.loop-rest-preserved c).In-Ok-Some) v.invariant.4 (omega (arith, v.invariant.0)) (omega (arith, c.loop-rest-test.true, v.invariant.3.most)) v.invariant.0 (which (goal.at.loop-rest-preserved c).In-Ok-Some) (place (goal.at.loop-rest-preserved c).In-Ok-Some) g.result asked))
 
 pub returns : goal.returns
 returns c =

@@ -78,7 +78,7 @@ keep_packages-left-requires c =
     let k = (goal.at.keep_packages-left-requires c).After-slice_known-1 in
     let i = inside k in
     let l = length-take-le c.args.m.next c.move_run.new.s (moved k _ c.move_run.ensures) in
-    (omega (arith, c.requires.0, c.round_up.ensures, i.0), omega (arith, i.1, l), omega (arith, i.2, l, c.requires.1), c.requires.3, c.requires.4)
+    (omega (arith, c.requires.0, c.round_up.ensures, i.0), omega (arith, i.1, l), omega (arith, i.2, l, c.requires.1), c.requires.3)
 
 pub returns-then-loses_last : goal.returns-then-loses_last
 returns-then-loses_last c =

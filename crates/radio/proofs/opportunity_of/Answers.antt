@@ -4,4 +4,4 @@ use Rattle.radio.proofs.opportunity_of.Goals as goal
 
 pub returns : goal.returns
 unfolding opportunity_of
-returns c = rw (c.half_at-frequency.ensures, c.half_at-id.ensures, c.byte_at-timeout.ensures, c.word_at-w.ensures, c.wide8-last.ensures.0, c.byte_at.ensures)
+returns c = rw (c.half_at-frequency.ensures, c.half_at-id.ensures, c.byte_at-timeout.ensures, c.word_at-w.ensures, c.from-last.ensures, c.byte_at.ensures)

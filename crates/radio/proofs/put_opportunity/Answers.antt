@@ -1,4 +1,5 @@
 -- `radio::put_opportunity` meets its contract: seven stores.
+use mathlib.Core.Path.{refl}
 use native.Mathlib.Omega.{arith}
 use Rattle.radio.proofs.Storing.{opportunity_stored}
 use Rattle.radio.proofs.Tlvs.{txop_ranges}
@@ -11,4 +12,4 @@ pub overflow_add-t : goal.overflow_add-t
 overflow_add-t c = record { fits = let (x, y) = txop_ranges _ c.requires in omega arith }
 
 pub returns : goal.returns
-returns c = opportunity_stored _ _ c.low_byte.ensures c.put_half.ensures c.put_half-2.ensures c.put_byte.ensures c.put_half-3.ensures c.put_byte-2.ensures c.put_word.ensures c.put_byte-3.ensures
+returns c = opportunity_stored _ _ refl c.put_half.ensures c.put_half-2.ensures c.put_byte.ensures c.put_half-3.ensures c.put_byte-2.ensures c.put_word.ensures c.put_byte-3.ensures

@@ -1,13 +1,10 @@
 -- `radio::signed_of` meets its contract.
+use mathlib.Core.Path.{◌≡◌, ◌∙◌}
 use native.Mathlib.Omega.{arith}
-use Rattle.radio.proofs.Signs.{low_signed, high_fits, high_signed}
+use Rattle.radio.specs.Tlv.{signed}
+use Rattle.radio.proofs.Finding.{read-signed}
+use Rattle.radio.proofs.Signs.{signed-is}
 use Rattle.radio.proofs.signed_of.Goals as goal
 
-pub returns-then-b-lt128 : goal.returns-then-b-lt128
-returns-then-b-lt128 c = low_signed _ c.if-b-lt128.true
-
-pub overflow_sub-result-2 : goal.overflow_sub-result-2
-overflow_sub-result-2 c = high_fits _ c.if-b-lt128.false (omega arith)
-
 pub returns : goal.returns
-returns c = high_signed _ c.if-b-lt128.false (omega arith)
+returns c = let e : c.cast_signed.result ≡ signed c.args.b = c.cast_signed.ensures ∙ signed-is _ (omega arith) in rw e (read-signed c.args.b (omega arith))

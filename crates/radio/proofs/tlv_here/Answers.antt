@@ -1,14 +1,14 @@
 -- `radio::tlv_here` meets its contract: its type, then its rules.
-use mathlib.Core.Path.{sym, ap, ◌∙◌}
-use Rattle.radio.specs.Told.{told_typed, told_found}
+use mathlib.Core.Path.{sym, ◌∙◌}
+use Rattle.refusal.proofs.Numbers.{handed_on}
 use Rattle.radio.proofs.Finding.{untyped, broken, whole}
 use Rattle.radio.proofs.tlv_here.Goals as goal
 
 pub returns-then-not-keeps : goal.returns-then-not-keeps
-returns-then-not-keeps c = ap told_found c.bad_tlv.ensures ∙ broken _ _ _ (ap told_typed (sym c.in-Tlv.is) ∙ c.typed.ensures) (sym c.keeps.ensures ∙ c.if-not-keeps.true)
+returns-then-not-keeps c = rw c.refuse.ensures (broken _ _ _ c.in_ok-t.ensures (sym c.keeps.ensures ∙ c.if-not-keeps.true))
 
-pub returns-in-Refused : goal.returns-in-Refused
-returns-in-Refused c = untyped _ _ (ap told_typed (sym c.in-Refused.is) ∙ c.typed.ensures)
+pub returns-in_err-t : goal.returns-in_err-t
+returns-in_err-t c = handed_on _ _ _ c.from_residual.ensures.1 (untyped _ _ c.in_err-t.ensures)
 
-pub returns-else-not-keeps : goal.returns-else-not-keeps
-returns-else-not-keeps c = whole _ _ _ (ap told_typed (sym c.in-Tlv.is) ∙ c.typed.ensures) (sym c.keeps.ensures ∙ c.if-not-keeps.false)
+pub returns : goal.returns
+returns c = whole _ _ _ c.in_ok-t.ensures (sym c.keeps.ensures ∙ c.if-not-keeps.false)

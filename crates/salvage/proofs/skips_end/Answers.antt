@@ -5,12 +5,6 @@ use borrow.Author.Rules.{rules}
 use Rattle.salvage.proofs.Skips.{first, goes_on, ends-here, ended}
 use Rattle.salvage.proofs.skips_end.Goals as goal
 
-pub skip_of-requires : goal.skip_of-requires
-skip_of-requires c = tt
-
-pub overflow_add-end : goal.overflow_add-end
-overflow_add-end c = omega (arith, c.skip_of.ensures)
-
 pub loop-end-init : goal.loop-end-init
 loop-end-init c = (omega (arith, c.skip_of.ensures), first _ _ (omega arith) ∙ rw c.skip_of.ensures)
 
@@ -18,15 +12,6 @@ pub returns-then-s-end-eq1 : goal.returns-then-s-end-eq1
 returns-then-s-end-eq1 c =
     let l = c.loop-end in
     sym (l.invariant.1 ∙ ends-here _ _ (search rules) c.if-s-end-eq1.true)
-
-pub skip_of-end-requires : goal.skip_of-end-requires
-skip_of-end-requires c = tt
-
-pub overflow_add-end-in-loop-end : goal.overflow_add-end-in-loop-end
-overflow_add-end-in-loop-end c = omega (arith, c.skip_of-end.ensures)
-
-pub loop-end-smaller : goal.loop-end-smaller
-loop-end-smaller c = omega (arith, c.skip_of-end.ensures)
 
 pub loop-end-preserved : goal.loop-end-preserved
 loop-end-preserved c =

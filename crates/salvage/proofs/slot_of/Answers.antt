@@ -1,7 +1,6 @@
 -- `salvage::slot_of` meets its contract.
 use mathlib.Core.Path.{◌≡◌, refl}
 use Prim.Native.Nat.{ℕ, zero, suc, ◌-◌}
-use native.Mathlib.Nat.{pos_of_ne-zero}
 use native.Mathlib.Omega.{arith}
 use borrow.Author.Tests.{eq-eqb, ne_eqb}
 use Rattle.salvage.specs.Told.{slot_of}
@@ -23,9 +22,6 @@ slot_new (suc count) end p h e = rw (ne_eqb end p e, slot_of)
 
 pub returns-then-count-eq0 : goal.returns-then-count-eq0
 returns-then-count-eq0 c = slot-none _ _ _ c.if-count-eq0.true
-
-pub overflow_sub-result : goal.overflow_sub-result
-overflow_sub-result c = pos_of_ne-zero c.if-count-eq0.false
 
 pub returns-then-end-at : goal.returns-then-end-at
 returns-then-end-at c = slot_on _ _ _ c.if-count-eq0.false c.if-end-at.true

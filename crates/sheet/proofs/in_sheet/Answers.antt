@@ -20,7 +20,7 @@ first-four [] n h l = absurd (omega arith)
 pub returns-then-n-le4 : goal.returns-then-n-le4
 returns-then-n-le4 c =
     let a = c.args in
-    c.in_few.ensures ∙ ap (λ (l : List Row). some_grants l a.m.mdid.0 a.m.simulated a.p.0 a.t) (first-four a.rows a.n (search rules) (omega arith))
+    c.in_first.ensures ∙ ap (λ (l : List Row). some_grants l a.m.mdid.0 a.m.simulated a.p.0 a.t) (first-four a.rows a.n (search rules) (omega arith))
 
 pub returns : goal.returns
 returns c =

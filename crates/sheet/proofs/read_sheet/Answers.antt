@@ -1,28 +1,22 @@
--- `sheet::read_sheet` meets its contract: in the loop the rows before `at` are read.
+-- `sheet::read_sheet` meets its contract: in the loop the rows before row i are stored.
 use borrow.Author.Rules.{rules}
-use mathlib.Core.Path.{subst, sym, ◌∙◌}
-use Rattle.sheet.specs.Reading.{ReadsRow}
-use Rattle.sheet.proofs.Reading.{start, next, ended, stopped, room, wrong-sized, told-bad}
+use mathlib.Core.Path.{sym}
+use Rattle.std.proofs.lemmas.Result.{err_from_is_err_and}
+use Rattle.rules.proofs.Outcomes.{refused-only}
+use Rattle.sheet.proofs.Reading.{start, next, ended, told-bad}
 use Rattle.sheet.proofs.read_sheet.Goals as goal
 
-pub returns-then-wrong_size : goal.returns-then-wrong_size
-returns-then-wrong_size c = c.refuse.ensures ∙ told-bad _ (wrong-sized _ (sym c.wrong_size.ensures ∙ c.if-wrong_size.true))
+pub returns-in_err-count : goal.returns-in_err-count
+returns-in_err-count c =
+    let p = err_from_is_err_and c.from_residual.result c.from_residual.ensures.1 in
+    rw (p.1, p.2) (told-bad _ (refused-only _ _ (sym c.in_err-count.ensures)))
 
-pub loop-at-init : goal.loop-at-init
-loop-at-init c = rw c.no_row-rows.ensures (start _ (sym c.wrong_size.ensures ∙ c.if-wrong_size.false))
+pub loop-i-init : goal.loop-i-init
+loop-i-init c = rw c.no_row-rows.ensures (start _ _ c.in_ok-count.ensures)
 
-pub read_row-found-requires : goal.read_row-found-requires
-read_row-found-requires c = let v = c.loop-at in room _ _ _ v.invariant.through (search rules)
-
-pub returns-in-Bad : goal.returns-in-Bad
-returns-in-Bad c =
-    let v = c.loop-at in
-    c.refuse-in-Bad.ensures ∙ told-bad _ (stopped _ _ _ _ v.invariant (search rules) (subst (ReadsRow _) c.in-Bad.is c.read_row-found.ensures))
-
-pub loop-at-preserved : goal.loop-at-preserved
-loop-at-preserved c =
-    let v = c.loop-at in
-    next _ _ _ _ v.invariant (search rules) _ (subst (ReadsRow _) c.in-Good.is c.read_row-found.ensures)
+pub loop-i-preserved : goal.loop-i-preserved
+loop-i-preserved c =
+    rw c.row_at.ensures (next _ _ c.in_ok-count.ensures _ _ c.loop-i.invariant (record { below = λ k. (c.type_inv.s k).fits }) c.loop-i-test.true)
 
 pub returns : goal.returns
-returns c = let v = c.loop-at in ended _ _ _ _ v.invariant (search rules)
+returns c = let l = c.loop-i in ended _ _ c.in_ok-count.ensures _ _ l.invariant (search rules) (search rules)

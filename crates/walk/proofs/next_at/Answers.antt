@@ -1,14 +1,12 @@
 -- `walk::next_at` meets its contract: the place behind the package, or the place handed in.
-use mathlib.Core.Path.{sym, ap, ◌∙◌}
 use Rattle.walk.proofs.Found.{there, over, refused}
-use Rattle.message.specs.Answers.{told_package}
 use Rattle.walk.proofs.next_at.Goals as goal
 
-pub returns-in-Package : goal.returns-in-Package
-returns-in-Package c = (there _ _ _ (ap told_package (sym c.in-Package.is) ∙ c.package_at.ensures)).next
+pub returns-in-Ok-Some : goal.returns-in-Ok-Some
+returns-in-Ok-Some c = (there _ _ _ (rw c.in-Ok-Some.field-0-is at c.in-Ok-Some.ensures)).next
 
-pub returns-in-End : goal.returns-in-End
-returns-in-End c = (over _ _ (ap told_package (sym c.in-End.is) ∙ c.package_at.ensures)).next
+pub returns-in-Ok-None : goal.returns-in-Ok-None
+returns-in-Ok-None c = (over _ _ (rw c.in-Ok-None.field-0-is at c.in-Ok-None.ensures)).next
 
-pub returns-in-Refused : goal.returns-in-Refused
-returns-in-Refused c = (refused _ _ (ap told_package (sym c.in-Refused.is) ∙ c.package_at.ensures)).next
+pub returns-in-Err : goal.returns-in-Err
+returns-in-Err c = (refused _ _ c.in-Err.ensures).next

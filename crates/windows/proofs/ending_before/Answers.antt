@@ -1,12 +1,13 @@
 -- `windows::ending_before` meets its contract.
 use Rattle.windows.proofs.Handing.{before-some, before_small, before-none}
 use Rattle.windows.proofs.ending_before.Goals as goal
+use Rattle.windows.proofs.ending_before.Goals.{else-place-eq0-via-then-place-eq0+else-length-ge65536, else-place-eq0-via-else-place-eq0}
 
-pub returns-then-place-gt0 : goal.returns-then-place-gt0
-returns-then-place-gt0 c = before-some _ _ c.if-place-gt0.true
-
-pub returns-then-length-lt65536 : goal.returns-then-length-lt65536
-returns-then-length-lt65536 c = before_small _ _ c.if-length-lt65536.true
+pub returns-then-length-ge65536 : goal.returns-then-length-ge65536
+returns-then-length-ge65536 c = rw c.refuse.ensures (before-none _ _ c.if-place-eq0.true c.if-length-ge65536.true)
 
 pub returns : goal.returns
-returns c = before-none _ _ c.if-place-gt0.false c.if-length-lt65536.false
+returns c = elim c.else-place-eq0.branch [
+  | else-place-eq0-via-then-place-eq0+else-length-ge65536 w ↦ before_small _ _ w.if-length-ge65536.false
+  | else-place-eq0-via-else-place-eq0 w ↦ before-some _ _ w.if-place-eq0.false
+]

@@ -1,8 +1,5 @@
 -- `windows::extent` meets its contract.
-use Prim.Native.Nat.{ℕ}
-use mathlib.Core.Path.{sym, subst}
 use native.Mathlib.Omega.{arith}
-use Rattle.windows.specs.Told.{Extends}
 use Rattle.windows.proofs.Lengths.{extends_short, extends_low, extends_cut, extends_whole}
 use Rattle.windows.proofs.extent.Goals as goal
 
@@ -16,6 +13,4 @@ pub returns-then-s-size : goal.returns-then-s-size
 returns-then-s-size c = extends_cut _ c.if-s-lt24.false (omega (arith, c.if-size-lt24.false, c.word_at-size.ensures)) (omega (arith, c.if-s-size.true, c.word_at-size.ensures))
 
 pub returns : goal.returns
-returns c =
-    let a = c.args in
-    subst (λ (r : ℕ). Extends a.s.now r) (sym c.word_at-size.ensures) (extends_whole a.s.now c.if-s-lt24.false (omega (arith, c.if-size-lt24.false, c.word_at-size.ensures)) (omega (arith, c.if-s-size.false, c.word_at-size.ensures)))
+returns c = rw c.word_at-size.ensures (extends_whole c.args.s.now c.if-s-lt24.false (omega (arith, c.if-size-lt24.false, c.word_at-size.ensures)) (omega (arith, c.if-s-size.false, c.word_at-size.ensures)))

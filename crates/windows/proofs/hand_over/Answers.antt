@@ -1,26 +1,24 @@
 -- `windows::hand_over` meets its contract: by what the check of the window answers.
-use mathlib.Core.Path.{ap, sym, ◌∙◌}
-use mathlib.Core.Bool.{true, false}
-use Rattle.message.specs.Answers.{told_check}
-use Rattle.windows.proofs.Handing.{handed-whole, handed-end, handed-cut}
+use mathlib.Core.Path.{◌≡◌, ap, ap₂, sym, ◌∙◌}
+use mathlib.Core.Bool.{Bool, true, false, ◌&&◌}
+use Rattle.refusal.specs.Numbers.{number_of}
+use Rattle.windows.specs.Window.{is_cut}
+use Rattle.windows.proofs.Handing.{handed-whole, handed-refused}
 use Rattle.windows.proofs.hand_over.Goals as goal
+use Rattle.windows.proofs.hand_over.Goals.{then-goes_on+else-is_cut, else-goes_on}
 
-pub returns-then-not-goes_on : goal.returns-then-not-goes_on
-returns-then-not-goes_on c =
-    let a = c.args in
-    handed-end a.goes_on a.window.now _ _ (c.if-not-goes_on.true) (sym (ap told_check (sym c.in-Refused.is) ∙ c.check.ensures))
+pub returns-in-Ok : goal.returns-in-Ok
+returns-in-Ok c = handed-whole c.args.goes_on c.args.window.now _ (sym c.in-Ok.ensures)
 
-pub returns-then-is_cut : goal.returns-then-is_cut
-returns-then-is_cut c =
-    let a = c.args in
-    c.ending_before.ensures ∙ handed-cut a.goes_on a.window.now _ _ true (c.if-not-goes_on.false) (sym c.if-is_cut.true ∙ c.is_cut.ensures) (sym (ap told_check (sym c.in-Refused.is) ∙ c.check.ensures))
+pub returns-in-Err : goal.returns-in-Err
+returns-in-Err c =
+    let cut : (c.args.goes_on && is_cut (number_of c.in-Err.f.why)) ≡ true = ap₂ ◌&&◌ c.if-goes_on.true (sym c.is_cut.ensures ∙ c.if-is_cut.true) in
+    c.ending_before.ensures ∙ handed-refused _ _ _ _ true cut (sym c.in-Err.ensures)
 
-pub returns-in-Passed : goal.returns-in-Passed
-returns-in-Passed c =
-    let a = c.args in
-    handed-whole a.goes_on a.window.now _ (sym (ap told_check (sym c.in-Passed.is) ∙ c.check.ensures))
-
-pub returns-else-is_cut : goal.returns-else-is_cut
-returns-else-is_cut c =
-    let a = c.args in
-    handed-cut a.goes_on a.window.now _ _ false (c.if-not-goes_on.false) (sym c.if-is_cut.false ∙ c.is_cut.ensures) (sym (ap told_check (sym c.in-Refused.is) ∙ c.check.ensures))
+pub returns-in-Err-2 : goal.returns-in-Err-2
+returns-in-Err-2 c =
+    let whole : (c.args.goes_on && is_cut (number_of c.in-Err.f.why)) ≡ false = elim c.if-goes_on.branch [
+      | then-goes_on+else-is_cut w ↦ ap₂ ◌&&◌ w.if-goes_on.true (sym w.is_cut.ensures ∙ w.if-is_cut.false)
+      | else-goes_on w ↦ ap (λ (b : Bool). b && is_cut (number_of c.in-Err.f.why)) w.if-goes_on.false
+    ] in
+    handed-refused _ _ _ _ false whole (sym c.in-Err.ensures)

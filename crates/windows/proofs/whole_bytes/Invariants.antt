@@ -4,8 +4,8 @@ use lib.ListN.{length}
 use Rattle.windows.proofs.Lengths.{Lengths}
 use Rattle.windows.proofs.whole_bytes.Given as goal
 
-abbrev pub invariant-loop-at : goal.invariant-loop-at
-invariant-loop-at l = Lengths l.window l.at
+abbrev pub invariant-loop-n : goal.invariant-loop-n
+invariant-loop-n l = Lengths l.window l.at
 
-abbrev pub decreases-loop-at : goal.decreases-loop-at
-decreases-loop-at l = length l.window - l.at
+abbrev pub decreases-loop-n : goal.decreases-loop-n
+decreases-loop-n l = length l.window - l.at

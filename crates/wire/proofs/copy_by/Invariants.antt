@@ -6,7 +6,7 @@ use Rattle.rules.specs.Bytes.{part}
 use Rattle.wire.proofs.copy_by.Given as goal
 
 abbrev pub invariant-loop-i : goal.invariant-loop-i
-invariant-loop-i l = (l.i ≤ l.n) × (l.out ≡ sets l.initial.out l.at (part l.from (l.from + l.i) l.s))
+invariant-loop-i g l = (l.i ≤ l.n) × (l.out ≡ sets l.initial.out l.at (part l.from (l.from + l.i) l.s))
 
 abbrev pub decreases-loop-i : goal.decreases-loop-i
-decreases-loop-i l = l.n - l.i
+decreases-loop-i g l = l.n - l.i

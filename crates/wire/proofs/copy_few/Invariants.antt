@@ -1,12 +1,9 @@
 -- `wire::copy_few` meets its contract: in the loop the bytes before `i` are stored.
 use mathlib.Core.Path.{◌≡◌}
-use Prim.Native.Nat.{◌+◌, ◌-◌, ◌≤◌}
+use Prim.Native.Nat.{◌+◌}
 use lib.Seq.{sets}
 use Rattle.rules.specs.Bytes.{part}
 use Rattle.wire.proofs.copy_few.Given as goal
 
 abbrev pub invariant-loop-i : goal.invariant-loop-i
-invariant-loop-i l = (l.i ≤ l.n) × (l.out ≡ sets l.initial.out l.at (part l.from (l.from + l.i) l.s))
-
-abbrev pub decreases-loop-i : goal.decreases-loop-i
-decreases-loop-i l = l.n - l.i
+invariant-loop-i l = l.out ≡ sets l.initial.out l.at (part l.from (l.from + l.i) l.s)

@@ -4,4 +4,4 @@ use Rattle.wire.proofs.Stores.{both}
 use Rattle.wire.proofs.half_at.Goals as goal
 
 pub returns : goal.returns
-returns c = both c.args.s.now c.args.k (c.wide16.ensures.0 ∙ c.byte_at-a.ensures) (c.wide16-2.ensures.0 ∙ c.byte_behind-b.ensures)
+returns c = c.from_be_bytes.ensures ∙ both c.args.s.now c.args.k c.byte_at.ensures c.byte_behind.ensures

@@ -1,11 +1,7 @@
 -- `wire::put_part` meets its contract: the part is cut at the ends of both slices.
 use mathlib.Core.Path.{◌∙◌}
-use native.Mathlib.Omega.{arith}
 use Rattle.wire.proofs.Stores.{part-fits}
 use Rattle.wire.proofs.put_part.Goals as goal
-
-pub copy-requires : goal.copy-requires
-copy-requires c = (omega arith, omega arith)
 
 pub returns : goal.returns
 returns c =

@@ -1,6 +1,0 @@
--- `hibernaxo::put_stretch` meets its contract: two stores are one run of stores.
-use native.Mathlib.Numerals.{add-one}
-use Rattle.hibernaxo.proofs.put_stretch.Goals as goal
-
-pub returns : goal.returns
-returns c = rw add-one

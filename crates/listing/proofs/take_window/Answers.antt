@@ -1,7 +1,0 @@
--- What is handed over to `listing::take_window` lies in the window.
-use Rattle.std.proofs.Common.{sym, length-take-le}
-use Rattle.windows.proofs.Windows.{hands_over}
-use Rattle.listing.proofs.take_window.Goals as goal
-
-pub slice_bounds-take_part-end : goal.slice_bounds-take_part-end
-slice_bounds-take_part-end c = sym (length-take-le _ _ (hands_over c.args.goes_on c.args.window.now _ (sym c.in-Bytes.ensures)).inside)

@@ -1,2 +1,0 @@
--- What a turn of the listing takes.
-pub mod Turns

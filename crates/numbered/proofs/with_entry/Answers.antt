@@ -1,9 +1,0 @@
--- `numbered::with_entry` meets its contract: nothing more exactly where no package is granted.
-use borrow.Author.Tests.{eq-eqb, ne_eqb}
-use Rattle.numbered.proofs.with_entry.Goals as goal
-
-pub returns-then-s-eq0 : goal.returns-then-s-eq0
-returns-then-s-eq0 c = rw (eq-eqb _ _ c.if-s-eq0.true)
-
-pub returns : goal.returns
-returns c = rw (ne_eqb _ _ c.if-s-eq0.false)
