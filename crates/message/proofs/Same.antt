@@ -7,7 +7,7 @@ use denote.Ref.{Bor}
 use Rattle.rules.specs.Outcome.{Outcome, tells}
 use Rattle.rules.specs.Message.{Head}
 use Rattle.rules.specs.Claims.{TellsApart}
-use Rattle.std.specs.Prelude.{Result}
+use Rattle.std.specs.Prelude.{Result, Ok, Err}
 use Rattle.std.specs.Prelude as std
 use Rattle.refusal.specs.declared.Refusal.{Refusal}
 use Rattle.refusal.specs.Numbers.{outcome_of, option_by}
@@ -71,19 +71,25 @@ same_check = same_answer (λ (n : Counts). (n.messages, n.packages)) counts_back
 
 -- By each promise `told r ≡ o` the answer's number, place and values are those of o, zero on a refusal.
 pub header-numbers : (r : Result Header Refusal) (o : Outcome (Head × ℕ)) → told_header r ≡ o → header_numbers r ≡ tells (no_head, 0) o
-header-numbers r o e = ap (tells (no_head, 0)) e
+header-numbers (Ok h) o e = ap (tells (no_head, 0)) e
+header-numbers (Err r) o e = ap (tells (no_head, 0)) e
 
 pub package_numbers_lem : (r : Result (std.Option Package) Refusal) (o : Outcome (Option PackageSpot)) → told_package r ≡ o → package_numbers r ≡ tells none o
-package_numbers_lem r o e = ap (tells none) e
+package_numbers_lem (Ok (std.Some k)) o e = ap (tells none) e
+package_numbers_lem (Ok std.None) o e = ap (tells none) e
+package_numbers_lem (Err r) o e = ap (tells none) e
 
 pub message-numbers : (r : Result Message Refusal) (o : Outcome MessageSpot) → told_message r ≡ o → message_numbers r ≡ tells no_message o
-message-numbers r o e = ap (tells no_message) e
+message-numbers (Ok m) o e = ap (tells no_message) e
+message-numbers (Err r) o e = ap (tells no_message) e
 
 pub check_numbers_lem : (r : Result Counts Refusal) (o : Outcome (ℕ × ℕ)) → told_check r ≡ o → check_numbers r ≡ tells (0, 0) o
-check_numbers_lem r o e = ap (tells (0, 0)) e
+check_numbers_lem (Ok n) o e = ap (tells (0, 0)) e
+check_numbers_lem (Err r) o e = ap (tells (0, 0)) e
 
 pub count-numbers : (r : Result ℕ Refusal) (o : Outcome ℕ) → outcome_of r ≡ o → count_numbers r ≡ tells 0 o
-count-numbers r o e = ap (tells 0) e
+count-numbers (Ok n) o e = ap (tells 0) e
+count-numbers (Err r) o e = ap (tells 0) e
 
 -- A part of the caller's bytes that is shown: its bytes and its place in memory are settled, and no program can see more.
 pub record SamePart (a b : Bor (List ℕ)) : Type 0 where

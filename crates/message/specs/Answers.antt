@@ -1,9 +1,9 @@
 -- What the answers of `message` stand for, and what its inner functions promise.
-use Rattle.std.specs.Prelude.{ℕ, suc, ◌+◌, ◌-◌, ◌*◌, ◌≤◌, ◌<◌, ◌≡◌, Bool, true, false, not, List, ltb, eqb, length, drop, Result}
+use Rattle.std.specs.Prelude.{ℕ, suc, ◌+◌, ◌-◌, ◌*◌, ◌≤◌, ◌<◌, ◌≡◌, Bool, true, false, not, List, ltb, eqb, length, drop, Result, Ok, Err}
 use Rattle.std.specs.Prelude as std
-use Rattle.std.proofs.Math.Option.{Option, none}
+use Rattle.std.proofs.Math.Option.{Option, none, some}
 use Rattle.std.specs.Borrow.{Bor}
-use Rattle.rules.specs.Outcome.{Outcome, good, refuse, ◌>>◌, ◌>>=◌, Told, tells, FRAGMENT, STANDARD, COUNT}
+use Rattle.rules.specs.Outcome.{Outcome, good, refuse, ◌>>◌, ◌>>=◌, Told, FRAGMENT, STANDARD, COUNT}
 use Rattle.rules.specs.Bytes.{at, half, pad, part}
 use Rattle.rules.specs.Options.{option_size, option_fits, count_said, differs}
 use Rattle.rules.specs.Packages.{package_fits, cut}
@@ -11,7 +11,7 @@ use Rattle.rules.specs.Message.{header_bytes, not_large, Head, head, standard_bi
 use Rattle.rules.specs.Reading.{MessageSpot, message_spot}
 use Rattle.rules.specs.Walk.{PackageSpot}
 use Rattle.refusal.specs.declared.Refusal.{Refusal}
-use Rattle.refusal.specs.Numbers.{outcome_by, outcome_of, option_by}
+use Rattle.refusal.specs.Numbers.{number_of, outcome_by, option_by}
 use Rattle.message.specs.declared.Tested.{Tested}
 use Rattle.message.specs.declared.Header.{Header}
 use Rattle.message.specs.declared.Package.{Package}
@@ -143,7 +143,8 @@ abbrev pub no_head : Head
 no_head = record { version = 0; words = 0; kind = 0; flags = 0; id = 0; sequence = 0; size = 0; seconds = 0; nanos = 0 }
 
 abbrev pub header_numbers : Result Header Refusal → Told (Head × ℕ)
-header_numbers r = tells (no_head, 0) (told_header r)
+header_numbers (Ok h) = record { number = 0; place = 0; values = (head_of_header h, h.run) }
+header_numbers (Err r) = record { number = number_of r.why; place = r.place; values = (no_head, 0) }
 
 -- r is a part of s, and begins at its element k: it lies in the same memory, k bytes further on
 pub record PartOf (s : Bor (List ℕ)) (k : ℕ) (r : Bor (List ℕ)) : Type 0 where
@@ -160,7 +161,9 @@ told_package r = outcome_by (λ o. option_by spot_of_package o) r
 
 -- at the end as on a refusal there is no package
 abbrev pub package_numbers : Result (std.Option Package) Refusal → Told (Option PackageSpot)
-package_numbers r = tells none (told_package r)
+package_numbers (Ok (std.Some k)) = record { number = 0; place = 0; values = some (spot_of_package k) }
+package_numbers (Ok std.None) = record { number = 0; place = 0; values = none }
+package_numbers (Err r) = record { number = number_of r.why; place = r.place; values = none }
 
 -- ---- a message in a recording
 
@@ -188,7 +191,8 @@ abbrev pub no_message : MessageSpot
 no_message = record { head = no_head; run = 0; payload = 0; next = 0; packages = 0 }
 
 abbrev pub message_numbers : Result Message Refusal → Told MessageSpot
-message_numbers r = tells no_message (told_message r)
+message_numbers (Ok m) = record { number = 0; place = 0; values = spot_of_message m }
+message_numbers (Err r) = record { number = number_of r.why; place = r.place; values = no_message }
 
 -- where a message ends, and how many packages it holds
 unfoldable pub span_of : Outcome MessageSpot → Outcome (ℕ × ℕ)
@@ -234,9 +238,11 @@ abbrev pub told_check : Result Counts Refusal → Outcome (ℕ × ℕ)
 told_check r = outcome_by (λ n. (n.messages, n.packages)) r
 
 abbrev pub check_numbers : Result Counts Refusal → Told (ℕ × ℕ)
-check_numbers r = tells (0, 0) (told_check r)
+check_numbers (Ok n) = record { number = 0; place = 0; values = (n.messages, n.packages) }
+check_numbers (Err r) = record { number = number_of r.why; place = r.place; values = (0, 0) }
 
 -- ---- a bare run
 
 abbrev pub count_numbers : Result ℕ Refusal → Told ℕ
-count_numbers r = tells 0 (outcome_of r)
+count_numbers (Ok n) = record { number = 0; place = 0; values = n }
+count_numbers (Err r) = record { number = number_of r.why; place = r.place; values = 0 }
