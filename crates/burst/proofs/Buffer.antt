@@ -1,6 +1,6 @@
 -- A buffer that is randomized byte by byte, part by part, or behind its first bytes only.
-use Prim.Native.Nat.{ℕ, suc, ◌+◌, ◌-◌, ◌*◌, ◌/◌, ◌%◌, ◌<◌, ◌≤◌}
-use mathlib.Core.Path.{◌≡◌, sym, ap, ◌∙◌}
+use Prim.Native.Nat.{ℕ, zero, suc, ◌+◌, ◌-◌, ◌*◌, ◌/◌, ◌%◌, ◌<◌, ◌≤◌}
+use mathlib.Core.Path.{◌≡◌, refl, sym, ap, ◌∙◌}
 use mathlib.Core.List.{List, ◌++◌, append-nil, append_assoc}
 use native.Mathlib.Nat.{zero-add}
 use native.Mathlib.Omega.{arith}
@@ -52,6 +52,19 @@ pub behind : (f a : ℕ) (s ys : List ℕ) → ys ≡ randomized f (take (length
 behind f a s ys q =
     let all : length (drop a s) ≤ length s - a = omega (arith, length-drop a s) in
     rw (q, take_all (length s - a) (drop a s) all, drop_of_length-le (drop a s) all) (ap (λ (t : List ℕ). take a s ++ t) (append-nil (randomized f (drop a s))))
+
+bytes-long : (n k : ℕ) → length (sequence_bytes k n) ≡ n
+unfolding sequence_bytes
+bytes-long zero k = refl
+bytes-long (suc n) k = ap suc (bytes-long n (suc k))
+
+-- a table of the sequence's first n bytes, and what whoever lends it shows where m of them are used
+module _ (n : ℕ) (t : List ℕ) (e : t ≡ sequence_bytes 0 n) where
+  pub table_long : length t ≡ n
+  table_long = ap length e ∙ bytes-long n 0
+
+  pub lent : (m : ℕ) → m ≤ n → (m ≤ length t) × (t ≡ sequence_bytes 0 (length t))
+  lent m h = (rw table_long h, e ∙ ap (sequence_bytes 0) (sym table_long))
 
 -- what is still to be randomized, one byte fewer: byte k, by entry j of the table
 pub byte-less : (n : ℕ) (t s : List ℕ) (j k : ℕ) → t ≡ sequence_bytes 0 n → j < n → k < length s → left (suc j) (suc k) (set s k (get_or s k 0 xor get_or t j 0)) ≡ left j k s
