@@ -84,16 +84,27 @@ fn put<T: Values<N>, const N: usize>(answer: Result<T, Refusal>, values: &mut [u
     }
 }
 
-// The values of each item, one behind the other, from a place on.
-fn put_each<T: Values<K> + Copy, const K: usize>(values: &mut [u64], from: usize, items: &[T])
-    requires { from + K * length items.now ≤ length values.old }
-    ensures { values.new ≡ sets values.old from (join (map T.told items.now)) }
+// Numbers stored from a place on, one by one: an array that is lent to be copied has a place of its own on the stack.
+fn put_some<const K: usize>(values: &mut [u64], at: usize, some: [u64; K])
+    requires { at + K ≤ length values.old }
+    ensures { values.new ≡ sets values.old at some.entry }
 {
-    let mut at = from;
-    for item in items {
-        let end = at + K;
-        values[at..end].copy_from_slice(&item.values());
-        at = end;
+    for i in 0..K {
+        values[at + i] = some[i];
+    }
+}
+
+// The values of each item, one behind the other, from a place on.
+fn put_each<T: Values<K> + Copy, const K: usize, const M: usize>(
+    values: &mut [u64],
+    from: usize,
+    items: [T; M],
+)
+    requires { from + K * M ≤ length values.old }
+    ensures { values.new ≡ sets values.old from (join (map T.told items)) }
+{
+    for i in 0..M {
+        put_some(values, from + K * i, items[i].values());
     }
 }
 
@@ -288,7 +299,7 @@ pub extern "C" fn hibernaxo_sheet(sheet: &[u8], values: &mut [u64; 290]) -> u32
         Ok(read) => {
             *values = [0; 290];
             values[1] = read.count as u64;
-            put_each(values, 2, &read.rows);
+            put_each(values, 2, read.rows);
             0
         }
         Err(x) => put_refusal(x, values),
@@ -452,7 +463,7 @@ pub extern "C" fn hibernaxo_read_ids(line: &[u8], values: &mut [u64; 66]) -> u32
         Ok(read) => {
             *values = [0; 66];
             values[1] = read.count as u64;
-            put_each(values, 2, &read.ranges);
+            put_each(values, 2, read.ranges);
             0
         }
         Err(x) => put_refusal(x, values),
@@ -492,7 +503,7 @@ fn put_salvaged(a: Result<Salvaged, Refusal>, values: &mut [u64; 132]) -> u32
             values[1] = kept.bytes as u64;
             values[2] = kept.messages as u64;
             values[3] = kept.count as u64;
-            put_each(values, 4, &kept.stretches);
+            put_each(values, 4, kept.stretches);
             0
         }
         Err(x) => put_refusal(x, values),

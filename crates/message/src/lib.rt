@@ -125,20 +125,37 @@ fn checks_one_to_six(m: &[u8], h: Tested, p: usize) -> Result<(), Refusal>
     Ok(())
 }
 
-// Whether an option of kind k, 0x80 or above, may have n bytes.
+// Whether an option of kind k, 0x80 or above, may have n bytes. Here and for a second option each test is a branch of its own: of a `match` the compiler
+// made choices among numbers, for which the next option waited, and a run of small options took half as long again.
 #[tactic(auto, unfolding(rules::specs::Options::length_allowed))]
 fn length_allowed(k: u8, n: u8) -> bool
     ensures { result ≡ options.length_allowed k n }
 {
-    if n < 2 || 60 < n {
+    if n < 2 {
         return false;
     }
-    match k {
-        0x82..=0x84 => 3 <= n && n <= 32,
-        0x85 => n == 6 || n == 18,
-        0x86..=0x87 => n == 6,
-        _ => true,
+    if 60 < n {
+        return false;
     }
+    if k < 0x82 {
+        return true;
+    }
+    if k <= 0x84 {
+        if n < 3 {
+            return false;
+        }
+        return n <= 32;
+    }
+    if k == 0x85 {
+        if n == 6 {
+            return true;
+        }
+        return n == 18;
+    }
+    if k <= 0x87 {
+        return n == 6;
+    }
+    true
 }
 
 // What stands at the start of option bytes: the end of the options, an option with its size, or none that keeps the rules.
@@ -183,11 +200,13 @@ struct Seen {
 fn is_second(seen: Seen, k: u8) -> bool
     ensures { result ≡ spec.second_by seen k }
 {
-    match k {
-        0x86 => seen.offset,
-        0x87 => seen.count,
-        _ => false,
+    if k == 0x86 {
+        return seen.offset;
     }
+    if k == 0x87 {
+        return seen.count;
+    }
+    false
 }
 
 // With an option of kind k.
@@ -195,17 +214,19 @@ fn is_second(seen: Seen, k: u8) -> bool
 fn with_kind(seen: Seen, k: u8) -> Seen
     ensures { result ≡ spec.with_kind seen k }
 {
-    match k {
-        0x86 => Seen {
+    if k == 0x86 {
+        return Seen {
             offset: true,
             ..seen
-        },
-        0x87 => Seen {
+        };
+    }
+    if k == 0x87 {
+        return Seen {
             count: true,
             ..seen
-        },
-        _ => seen,
+        };
     }
+    seen
 }
 
 // What stands at the start of option bytes, behind those seen: a second 0x86 or 0x87 keeps the rules no more than an option with a bad length.
@@ -392,7 +413,8 @@ fn checked_run(s: &[u8], at: usize, nine: bool) -> Result<usize, Refusal>
     Ok(run)
 }
 
-// The header of the message at the start of s.
+// The header of the message at the start of s. It is part of its callers, so that no header is handed on in memory.
+#[inline(always)]
 pub fn read_header(s: &[u8]) -> Result<Header, Refusal>
     ensures { spec.told_header result ≡ reading.header s.now }
 {

@@ -203,11 +203,10 @@ pub through_kept : (s : List ℕ) → Keeps s → Through s [] 0
 unfolding rules.sheet
 through_kept s k = through_start s (passed _ _ _ _ k.read).0
 
--- what handing out the rows of a sheet with count rows keeps: those before row i are stored, and the others are zero
-pub record Reading (s : List ℕ) (rows : List Row) (count i : ℕ) : Type 0 where
+-- what reading a sheet keeps: the rows before row i are stored, and the others are zero
+pub record Reading (s : List ℕ) (rows : List Row) (i : ℕ) : Type 0 where
   pub done : List Row
   pub many : length done ≡ i
-  pub all : 32 * count ≡ length s
   pub filled : rows ≡ done ++ replicate (32 - i) no_row
   pub through : Through s (map row_in done) (32 * i)
 
@@ -217,32 +216,36 @@ stored done n r l e =
     let z : 32 - n ≡ suc (32 - (n + 1)) = omega arith in
     rw z (set_at done no_row (replicate (32 - (n + 1)) no_row) r n e ∙ sym (append_assoc done (r ∷ []) _))
 
-module _ (s : List ℕ) (count : ℕ) (e : good count ≡ count_of_rows (rules.sheet s)) where
-  pub start : Reading s (replicate 32 no_row) count 0
-  start = record { done = []; many = refl; all = counted s count e; filled = refl; through = through_kept s (keeps s e) }
+pub start : (s : List ℕ) → wrong_size (length s) ≡ false → Reading s (replicate 32 no_row) 0
+start s e = record { done = []; many = refl; filled = refl; through = through_start s e }
 
-  module _ (rows : List Row) (i : ℕ) (inv : Reading s rows count i) where
-    pub next : Bytes s → i < count → Reading s (set rows i (row_at (take (length s - 32 * i) (drop (32 * i) s)))) count (i + 1)
-    next b h =
-        let l : 32 * i < length s = omega (arith, inv.all) in
-        let d = map row_in inv.done in
-        let r = row_at (take (length s - 32 * i) (drop (32 * i) s)) in
+module _ (s : List ℕ) (rows : List Row) (i : ℕ) (inv : Reading s rows i) where
+  module _ (l : 32 * i < length s) where
+    -- what is lent from row i on
+    abbrev lent_row : List ℕ
+    lent_row = lent s (map row_in inv.done) (32 * i) inv.through l
+
+    pub stopped : first_fits lent_row ≡ false → rules.sheet s ≡ bad ROW (32 * i)
+    stopped e = row-bad s (map row_in inv.done) (32 * i) inv.through l e
+
+    pub next : Bytes s → first_fits lent_row ≡ true → Reading s (set rows i (row_at lent_row)) (i + 1)
+    next b e =
+        let r = row_at lent_row in
         record {
           done = inv.done ++ (r ∷ []);
           many = rw (length-append inv.done (r ∷ [])) (omega (arith, inv.many));
-          all = inv.all;
-          filled = rw inv.filled (stored inv.done i r (omega (arith, inv.all, inv.through.small)) inv.many);
-          through = rw (map-append row_in inv.done (r ∷ [])) (through_more s d i inv.through l b (row-there s d (32 * i) inv.through l (keeps s e)));
+          filled = rw inv.filled (stored inv.done i r (omega (arith, inv.through.small)) inv.many);
+          through = rw (map-append row_in inv.done (r ∷ [])) (through_more s (map row_in inv.done) i inv.through l b e);
         }
 
-    pub ended : i ≤ count → count ≤ i → told (Ok (record { rows = rows; count = count })) ≡ answer (sheet_rows s)
-    unfolding sheet_rows shown_rows row_of
-    ended h l =
-        let k : i ≡ count = omega arith in
-        let m : length (map row_in inv.done) ≡ count = length-map inv.done row_in ∙ inv.many ∙ k in
-        let f : sheet_rows s ≡ good (map row_in rows, count) =
-        step _ _ (through_end s (map row_in inv.done) (32 * i) inv.through (omega (arith, inv.all))) (rw (m, inv.filled, map-append, map-replicate, k)) in
-        rw f
+  pub ended : (count : ℕ) → count ≡ length s / 32 → i ≤ count → count ≤ i → told (Ok (record { rows = rows; count = count })) ≡ answer (sheet_rows s)
+  unfolding sheet_rows shown_rows row_of
+  ended count c h l =
+      let k : i ≡ count = omega arith in
+      let m : length (map row_in inv.done) ≡ count = length-map inv.done row_in ∙ inv.many ∙ k in
+      let f : sheet_rows s ≡ good (map row_in rows, count) =
+      step _ _ (through_end s (map row_in inv.done) (32 * i) inv.through (omega (arith, inv.through.whole, c))) (rw (m, inv.filled, map-append, map-replicate, k)) in
+      rw f
 
 -- a sheet of a wrong size is bad
 pub wrong-sized : (s : List ℕ) → wrong_size (length s) ≡ true → rules.sheet s ≡ bad ROW (length s)

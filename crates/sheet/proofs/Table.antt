@@ -112,6 +112,10 @@ four l i h = rw (
   cons-at l (i + 3) (i + 4) (omega arith) (omega arith),
 )
 
+-- four numbers, stored one behind the other
+pub four_stores : (v : List ℕ) (k a b c d : ℕ) → set (set (set (set v k a) (k + 1) b) (k + 2) c) (k + 3) d ≡ sets v k (a ∷ b ∷ c ∷ d ∷ [])
+four_stores v k a b c d = rw (sets-sets (a ∷ []) (b ∷ []) v k, sets-sets (a ∷ b ∷ []) (c ∷ []) v k) (sets-sets (a ∷ b ∷ c ∷ []) (d ∷ []) v k)
+
 -- the four of the row at place i that its near row has
 pub near-four : (l : List ℕ) (i : ℕ) → i + 6 < length l
     → take (i + 6 - (i + 2)) (drop (i + 2) l) ≡ get_or l (i + 2) 0 ∷ get_or l (i + 3) 0 ∷ get_or l (i + 4) 0 ∷ get_or l (i + 5) 0 ∷ []

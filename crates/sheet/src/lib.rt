@@ -103,15 +103,16 @@ fn fits(row: Row) -> bool
     nanos_of(row.start) < nanos_of(row.end)
 }
 
-// Whether the row at the start of s, which has one at least, keeps the rules.
-fn first_fits(s: &[u8]) -> bool
-    requires { 32 ≤ length s.now }
+// Whether the row at the start of s, which has one at least, keeps the rules; what stands in its eight words is handed over, so that a row is read once.
+fn first_fits(s: &[u8], row: Row) -> bool
+    requires long { 32 ≤ length s.now }
+    requires read { row ≡ row_at s.now }
     ensures { result ≡ first_fits s.now }
 {
     if word_at(s, 28) / 2 % 8 != 0 {
         return false;
     }
-    fits(row_at(s))
+    fits(row)
 }
 
 // A row that is all zero.
@@ -157,21 +158,31 @@ fn count_rows(s: &[u8]) -> Result<usize, Refusal>
     let count = s.len() / 32;
     for i in 0..count {
         let at = 32 * i;
-        if !first_fits(&s[at..]) {
+        let rest = &s[at..];
+        if !first_fits(rest, row_at(rest)) {
             return refuse(Why::Row, at);
         }
     }
     Ok(count)
 }
 
-// The rows of a sheet.
+// The rows of a sheet. Its size is looked at before any row.
 pub fn read_sheet(s: &[u8]) -> Result<Sheet, Refusal>
     ensures { told result ≡ answer (sheet_rows s.now) }
 {
-    let count = count_rows(s)?;
+    if wrong_size(s.len()) {
+        return refuse(Why::Row, s.len());
+    }
+    let count = s.len() / 32;
     let mut rows = [no_row(); 32];
     for i in 0..count {
-        rows[i] = row_at(&s[32 * i..]);
+        let at = 32 * i;
+        let rest = &s[at..];
+        let row = row_at(rest);
+        if !first_fits(rest, row) {
+            return refuse(Why::Row, at);
+        }
+        rows[i] = row;
     }
     Ok(Sheet { rows, count })
 }
@@ -298,7 +309,10 @@ fn put_near(near: &mut [u64], n: usize, table: &[u64], i: usize)
     ensures { near.new ≡ sets near.old n (get_or table.now (i + 2) 0 ∷ get_or table.now (i + 3) 0 ∷ get_or table.now (i + 4) 0 ∷ get_or table.now (i + 5) 0 ∷ []) }
 {
     if n + 3 < near.len() {
-        near[n..n + 4].copy_from_slice(&table[i + 2..i + 6]);
+        near[n] = table[i + 2];
+        near[n + 1] = table[i + 3];
+        near[n + 2] = table[i + 4];
+        near[n + 3] = table[i + 5];
     } else {
         put_numbers(near, n, &table[i + 2..i + 6]);
     }

@@ -8,4 +8,4 @@ returns-then-word_at-ne0 c = spare-bits _ (search rules) (record { below = λ k.
 
 pub returns : goal.returns
 returns c =
-    rw (c.fits.ensures, c.row_at.ensures) (by-words _ (search rules) (record { below = λ k. (c.type_inv.s k).fits }) (rw c.word_at.ensures at c.if-word_at-ne0.false))
+    rw (c.fits.ensures, c.requires.read) (by-words _ (search rules) (record { below = λ k. (c.type_inv.s k).fits }) (rw c.word_at.ensures at c.if-word_at-ne0.false))

@@ -1,22 +1,24 @@
--- `sheet::read_sheet` meets its contract: in the loop the rows before row i are stored.
+-- `sheet::read_sheet` meets its contract: in the loop the rows before row i are read.
 use borrow.Author.Rules.{rules}
-use mathlib.Core.Path.{sym}
-use Rattle.std.proofs.lemmas.Result.{err_from_is_err_and}
-use Rattle.rules.proofs.Outcomes.{refused-only}
-use Rattle.sheet.proofs.Reading.{start, next, ended, told-bad}
+use mathlib.Core.Path.{refl, sym, ◌∙◌}
+use native.Mathlib.Omega.{arith}
+use Rattle.sheet.proofs.Reading.{start, next, stopped, ended, wrong-sized, told-bad}
 use Rattle.sheet.proofs.read_sheet.Goals as goal
 
-pub returns-in_err-count : goal.returns-in_err-count
-returns-in_err-count c =
-    let p = err_from_is_err_and c.from_residual.result c.from_residual.ensures.1 in
-    rw (p.1, p.2) (told-bad _ (refused-only _ _ (sym c.in_err-count.ensures)))
+pub returns-then-wrong_size : goal.returns-then-wrong_size
+returns-then-wrong_size c = rw c.refuse.ensures (told-bad _ (wrong-sized _ (sym c.wrong_size.ensures ∙ c.if-wrong_size.true)))
 
 pub loop-i-init : goal.loop-i-init
-loop-i-init c = rw c.no_row-rows.ensures (start _ _ c.in_ok-count.ensures)
+loop-i-init c = rw c.no_row-rows.ensures (start _ (sym c.wrong_size.ensures ∙ c.if-wrong_size.false))
+
+pub returns-then-not-first_fits : goal.returns-then-not-first_fits
+returns-then-not-first_fits c =
+    rw c.refuse-then-not-first_fits.ensures (told-bad _ (stopped _ _ _ c.loop-i.invariant (omega arith) (sym c.first_fits.ensures ∙ c.if-not-first_fits.true)))
 
 pub loop-i-preserved : goal.loop-i-preserved
 loop-i-preserved c =
-    rw c.row_at.ensures (next _ _ c.in_ok-count.ensures _ _ c.loop-i.invariant (record { below = λ k. (c.type_inv.s k).fits }) c.loop-i-test.true)
+    let fits = sym c.first_fits.ensures ∙ c.if-not-first_fits.false in
+    rw c.row_at-row.ensures (next _ _ _ c.loop-i.invariant (omega arith) (record { below = λ k. (c.type_inv.s k).fits }) fits)
 
 pub returns : goal.returns
-returns c = let l = c.loop-i in ended _ _ c.in_ok-count.ensures _ _ l.invariant (search rules) (search rules)
+returns c = ended _ _ _ c.loop-i.invariant _ refl (search rules) (search rules)
