@@ -57,14 +57,46 @@ class Item:
         self.public = self.function = False
         # The name that it shares with those that call it and that it calls, where there is one.
         self.cycle = None
+        # Of a trait's method, the type that has it.
+        self.type = None
         self.generics, self.parameters, self.answer, self.clauses = "", "", "", []
 
-    def calls(self, other):
-        """Whether the code calls another function of the crate, or names a constant."""
+    def says(self, other):
+        """Whether the code calls a function of the crate by its name, or names a constant."""
         if not other.function:
             return re.search(rf"\b{other.name.split('::')[-1]}\b", self.text) is not None
         before = re.findall(rf"(?:(\w+)::)?(?<!fn )\b{other.name.split('::')[-1]}\s*(?:::<[^()]*>)?\(", self.text)
         return any(word not in crates() for word in before)
+
+    def calls(self, other):
+        """Whether the code calls another function of the crate, or names a constant. A trait's method is one for each type that has it: it is called where
+        there is a value of that type, by the code or by what the value is handed to."""
+        if not other.type:
+            return self.says(other)
+        return other.type in self.types and any(item.says(other) for item in [self, *self.called])
+
+    @functools.cached_property
+    def called(self):
+        """The functions of the crate that it calls, without the methods of traits."""
+        return [item for item in items(self.crate) if item.function and not item.type and self.says(item)]
+
+    @functools.cached_property
+    def types(self):
+        """The types that the code has values of: those that it names, those that what it calls answers, in another crate too, and those of the fields of
+        these that it names. One of the language, as usize, counts in an answer, and not in a field."""
+        abroad = {f"{crate}::{name}" for crate, name in re.findall(r"\b(\w+)::(\w+)\(", self.text) if crate in crates()}
+        called = self.called + [item for name in abroad for item in items(name.split("::")[0]) if item.name == name]
+        found = {word for item in called for word in re.findall(r"\w+|\(\)", item.answer)} | set(re.findall(r"\b[A-Z]\w*", self.text))
+        inside = [kind for owner, name, kind in fields() if owner in found and re.search(rf"\.{name}\b", self.text)]
+        return found | set(re.findall(r"\b[A-Z]\w*", " ".join(inside)))
+
+
+@functools.lru_cache
+def fields():
+    """The fields of the crates' structs: of which struct, the name, and the type."""
+    texts = [plain(read(os.path.relpath(path, ROOT))) for path in sorted(glob.glob(f"{ROOT}/crates/*/src/**/*.rt", recursive=True))]
+    structs = [found for text in texts for found in re.findall(r"(?ms)^(?:pub )?struct (\w+)[^{;]*\{(.*?)^\}", text)]
+    return [(owner, name, kind) for owner, body in structs for name, kind in re.findall(r"(\w+): (.*),", body)]
 
 
 def owner_of(trait, kind):
@@ -76,8 +108,8 @@ def owner_of(trait, kind):
 
 
 def function_in(crate, path, text, found, types):
-    """The function whose head was found; `types` are the places of the methods' types."""
-    owner = next((name for name, start, end in types if start < found.start() < end), None)
+    """The function whose head was found; `types` are the places of the methods' types, each with what the prover calls it by and, for a trait, its name."""
+    owner, kind = next((names for names, start, end in types if start < found.start() < end), (None, None))
     name = f"{owner}::{found.group(2)}" if owner else found.group(2)
     opening = text.index("(", found.end())
     at = behind = block_end(text, opening)
@@ -88,6 +120,7 @@ def function_in(crate, path, text, found, types):
     item = Item(crate, path, name, text, found.start(), block_end(text, clause.end() - 1))
     item.function = True
     item.public = found.group(1) is not None
+    item.type = kind
     cycle = re.search(r"#\[cycle\((\w+)\)\]\s*(?:#\[[^\]]*\]\s*)*$", text[:found.start()])
     item.cycle = cycle.group(1) if cycle else None
     item.generics = text[found.end():opening]
@@ -104,7 +137,7 @@ def items(crate):
     for path in sorted(glob.glob(f"{ROOT}/crates/{crate}/src/**/*.rt", recursive=True)):
         path = os.path.relpath(path, f"{ROOT}/crates/{crate}")
         text = plain(read(f"crates/{crate}/{path}"))
-        types = [(owner_of(head.group(1), head.group(2)), head.start(), block_end(text, head.end() - 1))
+        types = [((owner_of(head.group(1), head.group(2)), head.group(1) and head.group(2)), head.start(), block_end(text, head.end() - 1))
                  for head in re.finditer(r"(?m)^impl\b(?:\s*<[^>]*>)?\s+(?:([^{]*?)\bfor\s+)?([\w()]+)[^{]*\{", text)]
         found += [function_in(crate, path, text, head, types) for head in FUNCTION.finditer(text)]
         found += [Item(crate, path, head.group(1), text, head.start(), block_end(text, head.end() - 1))
