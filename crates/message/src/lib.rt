@@ -628,14 +628,20 @@ fn span_from_ten(m: &[u8], h: Header, p: usize) -> Result<(usize, usize), Refusa
 }
 
 // The span of the message at place `at` of a recording. As `message_at` it calls `checked_run` itself, which then stays a function by itself in every
-// program that has `check` and `front_run`, so that these become part of their callers' loops.
+// program that has `check` and `front_run`, so that these become part of their callers' loops. Its refusal is passed on by a `match`: with `?` the
+// compiler laid out the loop otherwise, and recordings of small messages took up to 1.6 times the time.
 fn span_at(s: &[u8], at: usize) -> Result<(usize, usize), Refusal>
     ensures { outcome_of result ≡ spec.span_of (reading.message_at s.now at) }
 {
     let run = if plain_at(s, at) {
         0
     } else {
-        checked_run(s, at, true)?
+        match checked_run(s, at, true) {
+            Ok(n) => n,
+            Err(r) => {
+                return Err(r);
+            }
+        }
     };
     let head = header_in(s, at, run);
     span_from_ten(&s[at..], head, at)

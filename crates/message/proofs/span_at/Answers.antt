@@ -6,19 +6,18 @@ use Rattle.message.proofs.Fronts.{front-is, front-bad, entered, front_stopped}
 use Rattle.message.proofs.Messages.{span-bad}
 use Rattle.message.specs.Answers.{front_run, span_of}
 use Rattle.refusal.specs.Numbers.{outcome_of}
-use Rattle.refusal.proofs.Numbers.{handed_on}
 use Rattle.message.proofs.span_at.Goals as goal
-use Rattle.message.proofs.span_at.Goals.{then-plain_at, else-plain_at+in_ok-run, Joined-plain_at}
+use Rattle.message.proofs.span_at.Goals.{then-plain_at, else-plain_at+in-Ok, Joined-plain_at}
 
-pub returns-in_err-run : goal.returns-in_err-run
-returns-in_err-run c = handed_on _ _ _ c.from_residual.ensures.1 (span-bad (front_stopped _ _ (front-bad _ _ (c.in_err-run.ensures ∙ front-is _ _))))
+pub returns-in-Err : goal.returns-in-Err
+returns-in-Err c = span-bad (front_stopped _ _ (front-bad _ _ (ap outcome_of (sym c.in-Err.is) ∙ c.checked_run.ensures ∙ front-is _ _)))
 
 -- checks 1 to 9 pass, of a plain message or of another
 passing : (c : Joined-plain_at) → good c.if-plain_at.run ≡ front_run c.args.s.now c.args.at
 passing c =
     elim c.if-plain_at.branch [
       | then-plain_at w ↦ ap good w.run-is ∙ sym (c.plain_at.ensures w.if-plain_at.true)
-      | else-plain_at+in_ok-run w ↦ ap good w.run-is ∙ ap outcome_of (sym w.in_ok-run.was) ∙ w.checked_run.ensures ∙ front-is _ _
+      | else-plain_at+in-Ok w ↦ ap good w.run-is ∙ ap outcome_of (sym w.in-Ok.is) ∙ w.checked_run.ensures ∙ front-is _ _
     ]
 
 pub slice_bounds-span_from_ten-count : goal.slice_bounds-span_from_ten-count
