@@ -26,8 +26,8 @@ room k i m n r h g =
 pub part-stored : (b ys : List ℕ) (a k : ℕ) → length ys ≡ k → a + k ≤ length b → put_mid a k b ys ≡ sets b a ys
 part-stored b ys a k e h = rw (← e, drop-drop) (sym (append_assoc (take a b) ys _) ∙ sym (sets-eq ys b a (omega arith)))
 
--- one number more is stored behind those stored from a place on
-pub put_next : (b l : List ℕ) (at i d : ℕ) → i < length l → set (sets b at (take i l)) (at + i) (get_or l i d) ≡ sets b at (take (i + 1) l)
+-- one element more is stored behind those stored from a place on
+pub put_next : {A : Type 0} (b l : List A) (at i : ℕ) (d : A) → i < length l → set (sets b at (take i l)) (at + i) (get_or l i d) ≡ sets b at (take (i + 1) l)
 put_next b l at i d h =
     let n : length (take i l) ≡ i = length-take-le i l (omega arith) in
     ap (λ (k : ℕ). set (sets b at (take i l)) (at + k) (get_or l i d)) (sym n) ∙ sets-sets (take i l) (get_or l i d ∷ []) b at

@@ -84,13 +84,13 @@ fn put<T: Values<N>, const N: usize>(answer: Result<T, Refusal>, values: &mut [u
     }
 }
 
-// Numbers stored from a place on, one by one: an array that is lent to be copied has a place of its own on the stack.
-fn put_some<const K: usize>(values: &mut [u64], at: usize, some: [u64; K])
-    requires { at + K ≤ length values.old }
-    ensures { values.new ≡ sets values.old at some.entry }
+// Elements stored from a place on, one by one: an array that is lent to be copied has a place of its own on the stack.
+fn put_some<T: Copy, const K: usize>(into: &mut [T], at: usize, some: [T; K])
+    requires { at + K ≤ length into.old }
+    ensures { into.new ≡ sets into.old at some }
 {
     for i in 0..K {
-        values[at + i] = some[i];
+        into[at + i] = some[i];
     }
 }
 
@@ -364,22 +364,12 @@ fn state_in(state: &[u32; 129]) -> State
     State { ids, next, held }
 }
 
-// They are stored one by one and not as a part: an array that is lent to be copied has a place of its own on the stack.
-fn put_part(state: &mut [u32; 129], at: usize, part: [u32; 64])
-    requires { at ≤ 65 }
-    ensures { state.new ≡ sets state.old at part }
-{
-    for i in 0..64 {
-        state[at + i] = part[i];
-    }
-}
-
 fn put_state(state: &mut [u32; 129], after: State)
     ensures { state.new ≡ state_values (state_in after) }
 {
     state[0] = (after.held % 4294967296) as u32;
-    put_part(state, 1, after.ids);
-    put_part(state, 65, after.next);
+    put_some(state, 1, after.ids);
+    put_some(state, 65, after.next);
 }
 
 impl Values<6> for Progress {

@@ -1,4 +1,4 @@
--- `hibernaxo::put_some` meets its contract: in the loop the numbers before number i are stored.
+-- `hibernaxo::put_some` meets its contract: in the loop the elements before element i are stored.
 use borrow.Author.Rules.{rules}
 use mathlib.Core.Path.{◌≡◌}
 use native.Mathlib.Omega.{arith}
@@ -11,4 +11,4 @@ loop-i-preserved g c =
     let l = c.loop-i in
     let a = c.args in
     let n : length a.some ≡ g.row.K = search rules in
-    rw l.invariant (put_next a.values.now a.some a.at l.i 0 (omega (arith, n, c.loop-i-test.true)))
+    rw l.invariant (put_next a.into.now a.some a.at l.i _ (omega (arith, n, c.loop-i-test.true)))

@@ -20,5 +20,5 @@ pub returns : goal.returns
 returns c =
     let a = c.args in
     let long : length a.state.now ≡ 129 = omega arith in
-    c.put_part-2.ensures ∙ ap (λ (x : List ℕ). sets x 65 a.after.next) c.put_part.ensures
+    c.put_some-2.ensures ∙ ap (λ (x : List ℕ). sets x 65 a.after.next) c.put_some.ensures
     ∙ state-stored a.state.now a.after.ids a.after.next (a.after.held % 4294967296) long (ids-long (goal.at.returns c).Start) (next-long (goal.at.returns c).Start)
